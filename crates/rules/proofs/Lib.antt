@@ -1,0 +1,5 @@
+pub mod Refusal
+pub mod Write
+pub mod Walk
+pub mod Number
+pub mod Outcome

@@ -1,0 +1,149 @@
+-- The laws of searching, counting and adding up, by index and tail: what a loop at index i knows of the rest of the list, and what a store changes.
+-- Assumes nothing.
+use mathlib.Core.Path.{_≡_, refl, sym, _∙_, ap}
+use mathlib.Core.Bool.{Bool, true, false, cond, _&&_, false≢true}
+use mathlib.Core.List.{List, [], _∷_, _++_}
+use Prim.Native.Nat.{ℕ, zero, suc, _+_, _≤_, _<_, zero-le, suc-le-suc}
+use native.Mathlib.Nat.{not-suc-le-zero, le-of-suc-le-suc, zero-add, add-zero, add-assoc}
+use native.Mathlib.Numerals.{add-one}
+use native.Mathlib.Omega.{arith}
+use lib.ListN.{length, getD, take, drop, set}
+use lib.Seq.{drop-cons}
+use Rattle.rules.specs.Walk.{find, total, count, all, Every}
+
+module _ {ℓ} {A : Type ℓ} where
+  -- ---- find
+  pub find-le : (p : A → Bool) (l : List A) → find p l ≤ length l
+  find-le p [] = zero-le
+  find-le p (x ∷ xs) = go (p x) (find-le p xs)
+    where
+      go : (b : Bool) → find p xs ≤ length xs → cond b 0 (suc (find p xs)) ≤ suc (length xs)
+      go true h = zero-le
+      go false h = suc-le-suc h
+
+  -- what is found passes
+  pub find-passes : (p : A → Bool) (l : List A) (d : A) → find p l < length l → p (getD l (find p l) d) ≡ true
+  find-passes p [] d h = absurd (not-suc-le-zero h)
+  find-passes p (x ∷ xs) d h = go (p x) refl (find-passes p xs d) h
+    where
+      go : (b : Bool) → p x ≡ b → (find p xs < length xs → p (getD xs (find p xs) d) ≡ true)
+          → cond b 0 (suc (find p xs)) < suc (length xs) → p (getD (x ∷ xs) (cond b 0 (suc (find p xs))) d) ≡ true
+      go true e rest h = e
+      go false e rest h = rest (le-of-suc-le-suc h)
+
+  -- nothing before it passes
+  pub find-first : (p : A → Bool) (l : List A) (d : A) (i : ℕ) → i < find p l → p (getD l i d) ≡ false
+  find-first p [] d i h = absurd (not-suc-le-zero h)
+  find-first p (x ∷ xs) d i h = go (p x) refl (find-first p xs d) i h
+    where
+      go : (b : Bool) → p x ≡ b → ((i : ℕ) → i < find p xs → p (getD xs i d) ≡ false)
+          → (i : ℕ) → i < cond b 0 (suc (find p xs)) → p (getD (x ∷ xs) i d) ≡ false
+      go true e rest i h = absurd (not-suc-le-zero h)
+      go false e rest zero h = e
+      go false e rest (suc i) h = rest i (le-of-suc-le-suc h)
+
+  -- an index that passes, with none before it, is what is found
+  pub find-is : (p : A → Bool) (l : List A) (d : A) (i : ℕ) → i < length l → p (getD l i d) ≡ true
+      → ((k : ℕ) → k < i → p (getD l k d) ≡ false) → find p l ≡ i
+  find-is p [] d i h e none = absurd (not-suc-le-zero h)
+  find-is p (x ∷ xs) d zero h e none = rw e refl
+  find-is p (x ∷ xs) d (suc i) h e none =
+      rw (none 0 (suc-le-suc zero-le)) (ap suc (find-is p xs d i (le-of-suc-le-suc h) e (λ k l. none (suc k) (suc-le-suc l))))
+
+  -- where none passes the length is found
+  pub find-none : (p : A → Bool) (l : List A) (d : A) → ((i : ℕ) → i < length l → p (getD l i d) ≡ false) → find p l ≡ length l
+  find-none p [] d none = refl
+  find-none p (x ∷ xs) d none =
+      rw (none 0 (suc-le-suc zero-le)) (ap suc (find-none p xs d (λ i h. none (suc i) (suc-le-suc h))))
+
+  -- a turn of a loop that searches: the element at i passes, or the search goes on after it
+  pub find-here : (p : A → Bool) (l : List A) (i : ℕ) (d : A) → i < length l → p (getD l i d) ≡ true → find p (drop i l) ≡ 0
+  find-here p l i d h e = rw (drop-cons l i d h, e)
+
+  pub find-on : (p : A → Bool) (l : List A) (i : ℕ) (d : A) → i < length l → p (getD l i d) ≡ false
+      → find p (drop i l) ≡ suc (find p (drop (suc i) l))
+  find-on p l i d h e = rw (drop-cons l i d h, e)
+
+  -- ---- total, and count, which is one
+  -- a turn of a loop that adds up
+  pub total-turn : (f : A → ℕ) (l : List A) (i : ℕ) (d : A) → i < length l → total f (drop i l) ≡ f (getD l i d) + total f (drop (suc i) l)
+  total-turn f l i d h = rw (drop-cons l i d h)
+
+  pub total-append : (f : A → ℕ) (a b : List A) → total f (a ++ b) ≡ total f a + total f b
+  total-append f [] b = sym (zero-add (total f b))
+  total-append f (x ∷ xs) b = ap (λ (n : ℕ). f x + n) (total-append f xs b) ∙ sym (add-assoc (f x) (total f xs) (total f b))
+
+  -- a store exchanges one summand
+  pub total-set : (f : A → ℕ) (l : List A) (i : ℕ) (a d : A) → i < length l → total f (set l i a) + f (getD l i d) ≡ total f l + f a
+  total-set f [] i a d h = absurd (not-suc-le-zero h)
+  total-set f (x ∷ xs) zero a d h = omega arith
+  total-set f (x ∷ xs) (suc i) a d h = let e = total-set f xs i a d (le-of-suc-le-suc h) in omega arith
+
+  -- a summand is at most the sum
+  pub total-at : (f : A → ℕ) (l : List A) (i : ℕ) (d : A) → i < length l → f (getD l i d) ≤ total f l
+  total-at f [] i d h = absurd (not-suc-le-zero h)
+  total-at f (x ∷ xs) zero d h = omega arith
+  total-at f (x ∷ xs) (suc i) d h = let e = total-at f xs i d (le-of-suc-le-suc h) in omega arith
+
+  -- summands that agree give one sum
+  pub total-same : (f g : A → ℕ) (l : List A) (d : A) → ((i : ℕ) → i < length l → f (getD l i d) ≡ g (getD l i d)) → total f l ≡ total g l
+  total-same f g [] d same = refl
+  total-same f g (x ∷ xs) d same =
+      let e = total-same f g xs d (λ i h. same (suc i) (suc-le-suc h)) in
+      let s = same 0 (suc-le-suc zero-le) in
+      cc
+
+  pub count-le : (p : A → Bool) (l : List A) → count p l ≤ length l
+  count-le p [] = zero-le
+  count-le p (x ∷ xs) = go (p x) (count-le p xs)
+    where
+      go : (b : Bool) → count p xs ≤ length xs → cond b 1 0 + count p xs ≤ suc (length xs)
+      go true h = omega arith
+      go false h = omega arith
+
+  -- ---- all
+  -- a turn of a loop that tests every element
+  pub all-turn : (p : A → Bool) (l : List A) (i : ℕ) (d : A) → i < length l → all p (drop i l) ≡ (p (getD l i d) && all p (drop (suc i) l))
+  all-turn p l i d h = rw (drop-cons l i d h)
+
+  -- what all pass each passes
+  pub all-at : (p : A → Bool) (l : List A) (d : A) → all p l ≡ true → (i : ℕ) → i < length l → p (getD l i d) ≡ true
+  all-at p [] d e i h = absurd (not-suc-le-zero h)
+  all-at p (x ∷ xs) d e i h = go (p x) refl (all-at p xs d) e i h
+    where
+      go : (b : Bool) → p x ≡ b → (all p xs ≡ true → (i : ℕ) → i < length xs → p (getD xs i d) ≡ true)
+          → (b && all p xs) ≡ true → (i : ℕ) → i < suc (length xs) → p (getD (x ∷ xs) i d) ≡ true
+      go true e rest r zero h = e
+      go true e rest r (suc i) h = rest r i (le-of-suc-le-suc h)
+      go false e rest r i h = absurd (false≢true r)
+
+  -- what each passes all pass
+  pub all-of : (p : A → Bool) (l : List A) (d : A) → ((i : ℕ) → i < length l → p (getD l i d) ≡ true) → all p l ≡ true
+  all-of p [] d each = refl
+  all-of p (x ∷ xs) d each =
+      rw (each 0 (suc-le-suc zero-le)) (all-of p xs d (λ i h. each (suc i) (suc-le-suc h)))
+
+-- ---- Every
+module _ {ℓ} {A : Type ℓ} (P : A → Type 0) where
+  pub every-at : (l : List A) (d : A) → Every P l → (i : ℕ) → i < length l → P (getD l i d)
+  every-at [] d e i h = absurd (not-suc-le-zero h)
+  every-at (x ∷ xs) d e zero h = e .0
+  every-at (x ∷ xs) d e (suc i) h = every-at xs d (e .1) i (le-of-suc-le-suc h)
+
+  pub every-of : (l : List A) (d : A) → ((i : ℕ) → i < length l → P (getD l i d)) → Every P l
+  every-of [] d each = tt
+  every-of (x ∷ xs) d each = (each 0 (suc-le-suc zero-le), every-of xs d (λ i h. each (suc i) (suc-le-suc h)))
+
+  pub every-append : (a b : List A) → Every P a → Every P b → Every P (a ++ b)
+  every-append [] b ea eb = eb
+  every-append (x ∷ xs) b ea eb = (ea .0, every-append xs b (ea .1) eb)
+
+  pub every-take : (n : ℕ) (l : List A) → Every P l → Every P (take n l)
+  every-take zero l e = tt
+  every-take (suc n) [] e = tt
+  every-take (suc n) (x ∷ xs) e = (e .0, every-take n xs (e .1))
+
+  pub every-drop : (n : ℕ) (l : List A) → Every P l → Every P (drop n l)
+  every-drop zero l e = e
+  every-drop (suc n) [] e = tt
+  every-drop (suc n) (x ∷ xs) e = every-drop n xs (e .1)

@@ -1,0 +1,26 @@
+-- Bytes as numbers, most significant byte first (H.222.0 2.2.6), and the bits of a number.
+use mathlib.Core.List.{List, [], _∷_}
+use Prim.Native.Nat.{ℕ, zero, suc, _+_, _*_, _/_, _%_, _^_, _<_}
+use Rattle.rules.specs.Walk.{Every}
+
+-- the number that goes on with the bytes after what came before them
+abbrev pub numberFrom : ℕ → List ℕ → ℕ
+numberFrom before [] = before
+numberFrom before (b ∷ bs) = numberFrom (before * 256 + b) bs
+
+-- the number that the bytes are
+abbrev pub numberOf : List ℕ → ℕ
+numberOf bs = numberFrom 0 bs
+
+-- the k bytes that hold a number below 256 ^ k
+abbrev pub bytesOf : ℕ → ℕ → List ℕ
+bytesOf zero n = []
+bytesOf (suc k) n = (n / 256 ^ k % 256) ∷ bytesOf k n
+
+-- the field of `width` bits of n that has `after` bits after it
+abbrev pub bits : ℕ → ℕ → ℕ → ℕ
+bits n after width = n / 2 ^ after % 2 ^ width
+
+-- each is a byte
+abbrev pub Bytes : List ℕ → Type 0
+Bytes = Every (λ b. b < 256)

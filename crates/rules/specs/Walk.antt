@@ -1,0 +1,30 @@
+-- Searching, counting and adding up over a list.
+use mathlib.Core.Path.{_≡_}
+use mathlib.Core.Bool.{Bool, true, false, cond, _&&_, not}
+use mathlib.Core.List.{List, [], _∷_}
+use Prim.Native.Nat.{ℕ, suc, _+_}
+
+module _ {ℓ} {A : Type ℓ} where
+  -- the index of the first element that passes, or the length where none does
+  abbrev pub find : (A → Bool) → List A → ℕ
+  find p [] = 0
+  find p (x ∷ xs) = cond (p x) 0 (suc (find p xs))
+
+  -- the sum of f over the elements
+  abbrev pub total : (A → ℕ) → List A → ℕ
+  total f [] = 0
+  total f (x ∷ xs) = f x + total f xs
+
+  -- how many elements pass
+  abbrev pub count : (A → Bool) → List A → ℕ
+  count p = total (λ x. cond (p x) 1 0)
+
+  -- every element passes
+  abbrev pub all : (A → Bool) → List A → Bool
+  all p [] = true
+  all p (x ∷ xs) = p x && all p xs
+
+  -- P holds of every element
+  abbrev pub Every : (A → Type 0) → List A → Type 0
+  Every P [] = Unit {0}
+  Every P (x ∷ xs) = P x × Every P xs
