@@ -7,9 +7,13 @@ use native.Mathlib.Nat.{zero-mul, zero-add, mod-lt, mod-one, mod-eq-of-lt, mul-o
 use native.Mathlib.Omega.{arith}
 use lib.Arith.{digits-div, digits-mod, digits-lt, mod-mul}
 use lib.Dec.{lit<}
-use lib.ListN.{length}
+use lib.ListN.{length, getD, take, drop}
+use lib.Seq.{drop-cons}
 use Rattle.rules.specs.Walk.{Every}
-use Rattle.rules.specs.Number.{numberFrom, numberOf, bytesOf, Bytes}
+use Rattle.rules.specs.Number.{numberFrom, numberOf, numberAt, bytesOf, bytesAt, Bytes}
+use Rattle.rules.specs.Write.{put}
+use Rattle.rules.proofs.Walk.{every-take, every-drop}
+use Rattle.rules.proofs.Write.{length-put, written}
 
 pub length-bytesOf : (k n : ℕ) → length (bytesOf k n) ≡ k
 length-bytesOf zero n = refl
@@ -68,3 +72,21 @@ bytes-after (b ∷ bs) before h =
 
 pub bytes-number : (bs : List ℕ) → Bytes bs → bytesOf (length bs) (numberOf bs) ≡ bs
 bytes-number bs h = bytes-after bs 0 h
+
+-- ---- bytes at a place
+pub length-bytesAt : (s : List ℕ) (i k : ℕ) → length (bytesAt s i k) ≡ k
+length-bytesAt s i zero = refl
+length-bytesAt s i (suc k) = ap suc (length-bytesAt s (suc i) k)
+
+-- they are a part of the list
+pub bytesAt-part : (s : List ℕ) (i k : ℕ) → i + k ≤ length s → bytesAt s i k ≡ take k (drop i s)
+bytesAt-part s i zero h = refl
+bytesAt-part s i (suc k) h =
+    rw (drop-cons s i 0 (omega arith)) (ap (λ (t : List ℕ). getD s i 0 ∷ t) (bytesAt-part s (suc i) k (omega arith)))
+
+pub bytesAt-bytes : (s : List ℕ) (i k : ℕ) → i + k ≤ length s → Bytes s → Bytes (bytesAt s i k)
+bytesAt-bytes s i k h b = rw (bytesAt-part s i k h) (every-take (λ (x : ℕ). x < 256) k (drop i s) (every-drop (λ (x : ℕ). x < 256) i s b))
+
+-- what was written there is read there
+pub bytesAt-put : (d : List ℕ) (i : ℕ) (s : List ℕ) → i + length s ≤ length d → bytesAt (put d i s) i (length s) ≡ s
+bytesAt-put d i s h = bytesAt-part (put d i s) i (length s) (rw (length-put d i s h) h) ∙ written d i s h

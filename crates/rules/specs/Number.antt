@@ -1,6 +1,7 @@
 -- Bytes as numbers, most significant byte first (H.222.0 2.2.6), and the bits of a number.
 use mathlib.Core.List.{List, [], _∷_}
 use Prim.Native.Nat.{ℕ, zero, suc, _+_, _*_, _/_, _%_, _^_, _<_}
+use lib.ListN.{getD}
 use Rattle.rules.specs.Walk.{Every}
 
 -- the number that goes on with the bytes after what came before them
@@ -11,6 +12,15 @@ numberFrom before (b ∷ bs) = numberFrom (before * 256 + b) bs
 -- the number that the bytes are
 abbrev pub numberOf : List ℕ → ℕ
 numberOf bs = numberFrom 0 bs
+
+-- the k bytes from place i on; past the end of the list there are zeros
+abbrev pub bytesAt : List ℕ → ℕ → ℕ → List ℕ
+bytesAt s i zero = []
+bytesAt s i (suc k) = getD s i 0 ∷ bytesAt s (suc i) k
+
+-- the number in the k bytes from place i on
+abbrev pub numberAt : List ℕ → ℕ → ℕ → ℕ
+numberAt s i k = numberOf (bytesAt s i k)
 
 -- the k bytes that hold a number below 256 ^ k
 abbrev pub bytesOf : ℕ → ℕ → List ℕ

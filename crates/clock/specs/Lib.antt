@@ -1,0 +1,5 @@
+pub mod Modulus
+pub mod Range
+pub mod Stamp
+pub mod Reference
+pub mod Difference

@@ -1,0 +1,70 @@
+// Stamps (PTS, DTS): 33 bits in five bytes, behind a four-bit prefix and with three marker bits.
+ghost use mathlib.Core.Path.{_≡_};
+ghost use mathlib.Core.List.{[], _∷_};
+ghost use Rattle.rules.specs.Number.{numberOf, bytesOf};
+ghost use Rattle.clock.specs.Stamp.{isPrefix, stampMarked, stampOf, stampField, told, readStamp, wrote, writeStamp};
+ghost use Rattle.clock.specs.Difference.{toldSigned, stampDifference};
+
+use crate::Written;
+
+// A count of 90 kHz. A number of 2^33 or above can be made, and every call refuses it.
+pub struct Stamp(pub u64);
+
+pub enum Reading {
+    Value(Stamp),
+    Refused(u8),
+}
+
+pub enum Difference {
+    Signed(i64),
+    Refused(u8),
+}
+
+// The turn of a stamp, 2^33, and its half.
+const TURN: u64 = 0x2_0000_0000;
+const HALF: u64 = 0x1_0000_0000;
+
+// Whether a stamp can have this prefix.
+fn is_prefix(prefix: u8) -> bool
+    ensures { λ r. ⌜ r ≡ isPrefix prefix ⌝ }
+{
+    (1 <= prefix) & (prefix <= 3)
+}
+
+// The 40 bits of five bytes.
+fn bits_of(a: u8, b: u8, c: u8, d: u8, e: u8) -> u64
+    ensures { λ r. ⌜ r ≡ numberOf (a ∷ b ∷ c ∷ d ∷ e ∷ []) ⌝ }
+{
+    ((((a as u64) * 256 + (b as u64)) * 256 + (c as u64)) * 256 + (d as u64)) * 256 + (e as u64)
+}
+
+// Whether a field has this prefix and its three markers.
+fn is_marked(n: u64, prefix: u8) -> bool
+    ensures { λ r. ⌜ r ≡ stampMarked n prefix ⌝ }
+{
+    (n / 0x10_0000_0000 % 16 == (prefix as u64)) & (n / 0x1_0000_0000 % 2 == 1) & (n / 0x1_0000 % 2 == 1) & (n % 2 == 1)
+}
+
+// The stamp in a field.
+fn value_of(n: u64) -> u64
+    ensures { λ r. ⌜ r ≡ stampOf n ⌝ }
+{
+    n / 0x2_0000_0000 % 8 * 0x4000_0000 + n / 0x2_0000 % 0x8000 * 0x8000 + n / 2 % 0x8000
+}
+
+// The stamp whose field begins the bytes, behind the prefix that the caller names.
+pub fn read(bytes: &[u8], prefix: u8) -> Reading
+    ensures { λ r. ⌜ told r ≡ readStamp (now (bytes .entry)) prefix ⌝ }
+{
+    if !is_prefix(prefix) {
+        return Reading::Refused(40);
+    }
+    if bytes.len() < 5 {
+        return Reading::Refused(41);
+    }
+    let n = bits_of(bytes[0], bytes[1], bytes[2], bytes[3], bytes[4]);
+    if !is_marked(n, prefix) {
+        return Reading::Refused(36);
+    }
+    Reading::Value(Stamp(value_of(n)))
+}
