@@ -1,7 +1,7 @@
 -- Document 01, "Numbers of the house": the ranges of stamps and clock references.
 use mathlib.Core.Bool.{Bool}
 use Prim.Native.Nat.{ℕ, _*_, _^_}
-use lib.Dec.{ltb}
+use lib.Dec.{leb}
 
 -- Stamp: 0 to 2^33 − 1
 abbrev pub stampTurn : ℕ
@@ -11,8 +11,9 @@ stampTurn = 2 ^ 33
 abbrev pub referenceTurn : ℕ
 referenceTurn = 300 * 2 ^ 33
 
-abbrev pub inStampRange : ℕ → Bool
-inStampRange v = ltb v stampTurn
+-- "a clock value out of range"
+abbrev pub isNoStamp : ℕ → Bool
+isNoStamp v = leb stampTurn v
 
-abbrev pub inReferenceRange : ℕ → Bool
-inReferenceRange v = ltb v referenceTurn
+abbrev pub isNoReference : ℕ → Bool
+isNoReference v = leb referenceTurn v

@@ -1,5 +1,4 @@
 -- Document 01, "Time"; H.222.0 2.4.3.5 and equation 2-1: a clock reference's six bytes, read and written.
-use mathlib.Core.Bool.{not}
 use mathlib.Core.List.{List, [], _∷_}
 use Prim.Native.Nat.{ℕ, _+_, _*_, _/_, _%_, _^_}
 use lib.Dec.{ltb}
@@ -8,7 +7,7 @@ use Rattle.rules.specs.Answer.{Answer, refused, given}
 use Rattle.rules.specs.Number.{bits, numberAt, bytesOf}
 use Rattle.rules.specs.Refusal.{judge, _when_}
 use Rattle.rules.specs.Write.{put}
-use Rattle.clock.specs.Range.{inReferenceRange}
+use Rattle.clock.specs.Range.{isNoReference}
 use Rattle.clock.specs.Stamp.{Wrote}
 use Rattle.clock.specs.declared.reference.Reading.{Reading}
 use Rattle.clock.specs.declared.reference.Reading.the-variants as reading
@@ -49,7 +48,7 @@ readReference s =
 abbrev pub writeReference : List ℕ → ℕ → Wrote
 writeReference s v =
     judge (λ n. record { answer = refused n; bytes = s })
-    ((40 when not (inReferenceRange v))
+    ((40 when isNoReference v)
     ∷ (41 when ltb (length s) 6)
     ∷ [])
     (record { answer = given tt; bytes = put s 0 (bytesOf 6 (referenceField v)) })

@@ -1,5 +1,5 @@
 -- Document 01, "Time" and "PES headers"; H.222.0 2.4.3.7: a stamp's field of five bytes, read and written.
-use mathlib.Core.Bool.{Bool, not, _&&_, _||_}
+use mathlib.Core.Bool.{Bool, not, _&&_}
 use mathlib.Core.List.{List, [], _∷_}
 use Prim.Native.Nat.{ℕ, _+_, _*_, _/_, _%_, _^_}
 use lib.Dec.{leb, ltb, eqb}
@@ -8,7 +8,7 @@ use Rattle.rules.specs.Answer.{Answer, refused, given}
 use Rattle.rules.specs.Number.{bits, numberAt, bytesOf}
 use Rattle.rules.specs.Refusal.{judge, _when_}
 use Rattle.rules.specs.Write.{put}
-use Rattle.clock.specs.Range.{inStampRange}
+use Rattle.clock.specs.Range.{isNoStamp}
 use Rattle.clock.specs.declared.Written.{Written}
 use Rattle.clock.specs.declared.Written.the-variants as written
 use Rattle.clock.specs.declared.stamp.Reading.{Reading}
@@ -18,17 +18,17 @@ use Rattle.clock.specs.declared.stamp.Reading.the-variants as reading
 abbrev pub stampOf : ℕ → ℕ
 stampOf n = bits n 33 3 * 2 ^ 30 + bits n 17 15 * 2 ^ 15 + bits n 1 15
 
--- the prefix is the one named, and the three marker bits are ones
-abbrev pub stampMarked : ℕ → ℕ → Bool
-stampMarked n prefix = eqb (bits n 36 4) prefix && eqb (bits n 32 1) 1 && eqb (bits n 16 1) 1 && eqb (bits n 0 1) 1
+-- "a stamp's four-bit prefix or one of its three marker bits is wrong"
+abbrev pub isUnmarked : ℕ → ℕ → Bool
+isUnmarked n prefix = not (eqb (bits n 36 4) prefix && eqb (bits n 32 1) 1 && eqb (bits n 16 1) 1 && eqb (bits n 0 1) 1)
 
 -- the field of a stamp behind a prefix, with its three markers
 abbrev pub stampField : ℕ → ℕ → ℕ
 stampField prefix v = prefix * 2 ^ 36 + bits v 30 3 * 2 ^ 33 + 2 ^ 32 + bits v 15 15 * 2 ^ 17 + 2 ^ 16 + bits v 0 15 * 2 + 1
 
--- a stamp's prefix is 1, 2 or 3
-abbrev pub isPrefix : ℕ → Bool
-isPrefix prefix = leb 1 prefix && leb prefix 3
+-- "a stamp prefix other than 1, 2, 3"
+abbrev pub isNoPrefix : ℕ → Bool
+isNoPrefix prefix = not (leb 1 prefix && leb prefix 3)
 
 -- what a reading says in document 01's terms
 abbrev pub told : Reading → Answer ℕ
@@ -39,9 +39,9 @@ told (reading.Refused n) = refused n
 abbrev pub readStamp : List ℕ → ℕ → Answer ℕ
 readStamp s prefix =
     judge refused
-    ((40 when not (isPrefix prefix))
+    ((40 when isNoPrefix prefix)
     ∷ (41 when ltb (length s) 5)
-    ∷ (36 when not (stampMarked (numberAt s 0 5) prefix))
+    ∷ (36 when isUnmarked (numberAt s 0 5) prefix)
     ∷ [])
     (given (stampOf (numberAt s 0 5)))
 
@@ -58,7 +58,8 @@ wrote (written.Refused n) s = record { answer = refused n; bytes = s }
 abbrev pub writeStamp : List ℕ → ℕ → ℕ → Wrote
 writeStamp s prefix v =
     judge (λ n. record { answer = refused n; bytes = s })
-    ((40 when not (isPrefix prefix && inStampRange v))
+    ((40 when isNoPrefix prefix)
+    ∷ (40 when isNoStamp v)
     ∷ (41 when ltb (length s) 5)
     ∷ [])
     (record { answer = given tt; bytes = put s 0 (bytesOf 5 (stampField prefix v)) })

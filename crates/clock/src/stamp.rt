@@ -2,9 +2,8 @@
 ghost use mathlib.Core.Path.{_≡_};
 ghost use mathlib.Core.List.{[], _∷_};
 ghost use Rattle.rules.specs.Number.{numberOf, bytesOf};
-ghost use Rattle.clock.specs.Stamp.{isPrefix, stampMarked, stampOf, stampField, told, readStamp, wrote, writeStamp};
+ghost use Rattle.clock.specs.Stamp.{isNoPrefix, isUnmarked, stampOf, stampField, told, readStamp, wrote, writeStamp};
 ghost use Rattle.clock.specs.Difference.{toldSigned, stampDifference};
-
 use crate::Written;
 
 // A count of 90 kHz. A number of 2^33 or above can be made, and every call refuses it.
@@ -15,20 +14,21 @@ pub enum Reading {
     Refused(u8),
 }
 
-pub enum Difference {
+pub enum Apart {
     Signed(i64),
     Refused(u8),
 }
 
 // The turn of a stamp, 2^33, and its half.
 const TURN: u64 = 0x2_0000_0000;
+
 const HALF: u64 = 0x1_0000_0000;
 
-// Whether a stamp can have this prefix.
-fn is_prefix(prefix: u8) -> bool
-    ensures { λ r. ⌜ r ≡ isPrefix prefix ⌝ }
+// Whether no stamp has this prefix.
+fn is_no_prefix(prefix: u8) -> bool
+    ensures { λ r. ⌜ r ≡ isNoPrefix prefix ⌝ }
 {
-    (1 <= prefix) & (prefix <= 3)
+    !((1 <= prefix) & (prefix <= 3))
 }
 
 // The 40 bits of five bytes.
@@ -38,11 +38,14 @@ fn bits_of(a: u8, b: u8, c: u8, d: u8, e: u8) -> u64
     ((((a as u64) * 256 + (b as u64)) * 256 + (c as u64)) * 256 + (d as u64)) * 256 + (e as u64)
 }
 
-// Whether a field has this prefix and its three markers.
-fn is_marked(n: u64, prefix: u8) -> bool
-    ensures { λ r. ⌜ r ≡ stampMarked n prefix ⌝ }
+// Whether a field lacks this prefix or one of its three markers.
+fn is_unmarked(n: u64, prefix: u8) -> bool
+    ensures { λ r. ⌜ r ≡ isUnmarked n prefix ⌝ }
 {
-    (n / 0x10_0000_0000 % 16 == (prefix as u64)) & (n / 0x1_0000_0000 % 2 == 1) & (n / 0x1_0000 % 2 == 1) & (n % 2 == 1)
+    !((n / 0x10_0000_0000 % 16 == (prefix as u64))
+        & (n / 0x1_0000_0000 % 2 == 1)
+        & (n / 0x1_0000 % 2 == 1)
+        & (n % 2 == 1))
 }
 
 // The stamp in a field.
@@ -56,15 +59,67 @@ fn value_of(n: u64) -> u64
 pub fn read(bytes: &[u8], prefix: u8) -> Reading
     ensures { λ r. ⌜ told r ≡ readStamp (now (bytes .entry)) prefix ⌝ }
 {
-    if !is_prefix(prefix) {
+    if is_no_prefix(prefix) {
         return Reading::Refused(40);
     }
     if bytes.len() < 5 {
         return Reading::Refused(41);
     }
     let n = bits_of(bytes[0], bytes[1], bytes[2], bytes[3], bytes[4]);
-    if !is_marked(n, prefix) {
+    if is_unmarked(n, prefix) {
         return Reading::Refused(36);
     }
     Reading::Value(Stamp(value_of(n)))
+}
+
+// The field of a stamp behind a prefix.
+fn field_of(prefix: u8, v: u64) -> u64
+    ensures { λ r. ⌜ r ≡ stampField prefix v ⌝ }
+{
+    (prefix as u64) * 0x10_0000_0000
+        + v / 0x4000_0000 % 8 * 0x2_0000_0000
+        + 0x1_0000_0000
+        + v / 0x8000 % 0x8000 * 0x2_0000
+        + 0x1_0000
+        + v % 0x8000 * 2
+        + 1
+}
+
+// The stamp's field at the start of the bytes, behind the prefix that the caller names.
+pub fn write(bytes: &mut [u8], prefix: u8, stamp: Stamp) -> Written
+    ensures { λ r. ⌜ wrote r (now (bytes .exit)) ≡ writeStamp (now (bytes .entry)) prefix (stamp .0) ⌝ }
+{
+    let v = stamp.0;
+    if is_no_prefix(prefix) {
+        return Written::Refused(40);
+    }
+    if TURN <= v {
+        return Written::Refused(40);
+    }
+    if bytes.len() < 5 {
+        return Written::Refused(41);
+    }
+    let n = field_of(prefix, v);
+    bytes[0] = (n / 0x1_0000_0000 % 256) as u8;
+    bytes[1] = (n / 0x100_0000 % 256) as u8;
+    bytes[2] = (n / 0x1_0000 % 256) as u8;
+    bytes[3] = (n / 0x100 % 256) as u8;
+    bytes[4] = (n % 256) as u8;
+    Written::Done
+}
+
+// The signed difference a − b, by the shorter way round: 2^33 divides 2^64, so the wrapped subtraction may be reduced.
+pub fn difference(a: Stamp, b: Stamp) -> Apart
+    ensures { λ r. ⌜ toldSigned r ≡ stampDifference (a .0) (b .0) ⌝ }
+{
+    let x = a.0;
+    let y = b.0;
+    if TURN <= x {
+        return Apart::Refused(40);
+    }
+    if TURN <= y {
+        return Apart::Refused(40);
+    }
+    let apart = std::num::wrapping_sub_u64(x + HALF, y) % TURN;
+    Apart::Signed((apart as i64) - 0x1_0000_0000)
 }

@@ -17,6 +17,13 @@ module _ {ℓ} {A : Type ℓ} {z : A} where
   pub no : (b : Bool) (x y : A) → b ≡ false → z ≡ y → z ≡ cond b x y
   no b x y e p = rw e p
 
+  -- a test that a function of its own made: r is its answer
+  pub yes-by : (b r : Bool) (x y : A) → r ≡ b → r ≡ true → z ≡ x → z ≡ cond b x y
+  yes-by b r x y e t = yes b x y (sym e ∙ t)
+
+  pub no-by : (b r : Bool) (x y : A) → r ≡ b → r ≡ false → z ≡ y → z ≡ cond b x y
+  no-by b r x y e t = no b x y (sym e ∙ t)
+
   pub yes< : (a b : ℕ) (x y : A) → a < b → z ≡ x → z ≡ cond (ltb a b) x y
   yes< a b x y h = yes (ltb a b) x y (lt-ltb a b h)
 
@@ -42,7 +49,7 @@ module _ {ℓ} {A : Type ℓ} {z : A} where
   no≢ a b x y h = no (not (eqb a b)) x y (ap not (eq-eqb a b h))
 
 -- every test of a table, for `search`
-pub ruleset tests = (yes<, no<, yes≤, no≤, yes≡, no≡, yes≢, no≢)
+pub ruleset tests = (yes-by, no-by, yes<, no<, yes≤, no≤, yes≡, no≡, yes≢, no≢)
 
 -- ---- the whole table
 module _ {ℓ} {A : Type ℓ} (refuse : ℕ → A) (answer : A) where

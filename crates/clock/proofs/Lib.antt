@@ -1,0 +1,2 @@
+pub mod Modulus
+pub mod Signed

@@ -1,0 +1,68 @@
+use native.Mathlib.Omega.{arith}
+use mathlib.Core.Path.{_≡_, refl, sym, _∙_}
+use Prim.Native.Nat.{_+_, _%_, _^_, _<_}
+use native.Mathlib.Nat.{mod-eq-of-lt}
+use lib.Dec.{lit<}
+use lib.IntN.{pos, _-ℤ_}
+use mir.Syntax.{w64}
+use mir.Val.{toZ}
+use mir.ValLaws.{toZ-pos, toZ-ofZ}
+use Rattle.clock.specs.Modulus.{minusMod}
+use Rattle.clock.specs.Range.{stampTurn}
+use Rattle.clock.proofs.Modulus.{wrapped-reduces}
+use Rattle.clock.proofs.Signed.{signed-fits}
+use Rattle.rules.proofs.Refusal.{tests}
+use borrow.Author.Needs.{needs}
+use Rattle.clock.proofs.stamp.difference.Statement.{statement}
+use Rattle.clock.proofs.stamp.difference.Tie as tie
+use Rattle.clock.proofs.stamp.difference.Reads as reads
+use Rattle.clock.proofs.stamp.difference.Lts as lts
+use Rattle.std.proofs.num.wrapping_sub_u64.Reads as wrapping-sub-u64-reads
+
+-- src/stamp.rt:115:9
+returns : tie.Need-returns
+returns c = search (tests, arith)
+
+-- src/stamp.rt:118:9
+returns-2 : tie.Need-returns-2
+returns-2 c = search (tests, arith)
+
+-- src/stamp.rt:120:44
+add-wrapping-sub-u64 : tie.Need-add-wrapping-sub-u64
+add-wrapping-sub-u64 c = search needs
+
+-- src/stamp.rt:120:17
+wrapping-sub-u64-requires : tie.Need-wrapping-sub-u64-requires
+wrapping-sub-u64-requires c κs = search needs
+
+-- src/stamp.rt:121:20
+cast-t9 : tie.Need-cast-t9
+cast-t9 c = search needs
+
+-- src/stamp.rt:121:19
+sub-t10 : tie.Need-sub-t10
+sub-t10 c = signed-fits (c .wrapping-sub-u64 .result % 8589934592) (omega arith)
+
+-- src/stamp.rt:109:1
+returns-3 : tie.Need-returns-3
+returns-3 c =
+    let a = c .before .before .before .args in
+    let w = c .wrapping-sub-u64 .result in
+    let fits : w % 8589934592 < 2 ^ 63 = omega arith in
+    let reduced : w % 8589934592 ≡ minusMod stampTurn (a .a .0 + 4294967296) (a .b .0) =
+    wrapped-reduces stampTurn (2 ^ 64) (a .a .0 + 4294967296) (a .b .0) w (lit< tt) refl (omega arith)
+    (c .wrapping-sub-u64 .ensures ∙ sym (mod-eq-of-lt (omega arith))) in
+    rw (toZ-ofZ w64 (toZ w64 (w % 8589934592) -ℤ pos 4294967296) (signed-fits (w % 8589934592) fits), toZ-pos w64 (w % 8589934592) fits, reduced)
+    (search (tests, arith))
+
+pub difference-spec : {M : Type 1} → statement M
+difference-spec =
+    tie.close
+    (tie.spec
+    returns
+    returns-2
+    add-wrapping-sub-u64
+    wrapping-sub-u64-requires
+    cast-t9
+    sub-t10
+    returns-3)
