@@ -3,3 +3,4 @@ pub mod Range
 pub mod Stamp
 pub mod Reference
 pub mod Difference
+pub mod Stars

@@ -1,18 +1,25 @@
 -- Document 01, "Time"; H.222.0 2.4.3.5 and equation 2-1: a clock reference's six bytes, read and written.
 use mathlib.Core.List.{List, [], _∷_}
-use Prim.Native.Nat.{ℕ, _+_, _*_, _/_, _%_, _^_}
+use Prim.Native.Nat.{ℕ, _+_, _*_, _/_, _%_}
 use lib.Dec.{ltb}
 use lib.ListN.{length}
 use Rattle.rules.specs.Answer.{Answer, refused, given}
-use Rattle.rules.specs.Number.{bits, numberAt, bytesOf}
-use Rattle.rules.specs.Refusal.{judge, _when_}
+use Rattle.rules.specs.Number.{bits, Field, field, pack, numberAt, bytesOf}
+use Rattle.rules.specs.Refusal.{Row, judge, _when_}
 use Rattle.rules.specs.Write.{put}
 use Rattle.clock.specs.Range.{isNoReference}
-use Rattle.clock.specs.Stamp.{Wrote}
+use Rattle.clock.specs.Stamp.{Wrote, unwritten}
 use Rattle.clock.specs.declared.reference.Reading.{Reading}
 use Rattle.clock.specs.declared.reference.Reading.the-variants as reading
 
--- the field's 48 bits: base 33, reserved 6, extension 9
+-- the field's 48 bits: base 33, reserved 6, extension 9; "Written reserved bits are ones"
+abbrev pub referenceLayout : ℕ → List Field
+referenceLayout v = field 33 (v / 300) ∷ field 6 63 ∷ field 9 (v % 300) ∷ []
+
+-- the field of a reference
+abbrev pub referenceField : ℕ → ℕ
+referenceField v = pack (referenceLayout v)
+
 abbrev pub baseOf : ℕ → ℕ
 baseOf n = bits n 15 33
 
@@ -26,29 +33,22 @@ extensionOf n = bits n 0 9
 abbrev pub referenceOf : ℕ → ℕ
 referenceOf n = baseOf n * 300 + extensionOf n
 
--- the field of a reference; "Written reserved bits are ones"
-abbrev pub referenceField : ℕ → ℕ
-referenceField v = v / 300 * 2 ^ 15 + 63 * 2 ^ 9 + v % 300
-
 -- what a reading says in document 01's terms
 abbrev pub told : Reading → Answer ℕ
 told (reading.Value v) = given (v .0)
 told (reading.Refused n) = refused n
 
 -- "Reading a lone field: 41, 8"
+abbrev pub referenceReadRefusals : List ℕ → List Row
+referenceReadRefusals s = (41 when ltb (length s) 6) ∷ (8 when ltb 299 (extensionOf (numberAt s 0 6))) ∷ []
+
 abbrev pub readReference : List ℕ → Answer ℕ
-readReference s =
-    judge refused
-    ((41 when ltb (length s) 6)
-    ∷ (8 when ltb 299 (extensionOf (numberAt s 0 6)))
-    ∷ [])
-    (given (referenceOf (numberAt s 0 6)))
+readReference s = judge refused (referenceReadRefusals s) (given (referenceOf (numberAt s 0 6)))
 
 -- "Writing one: 40, 41"
+abbrev pub referenceWriteRefusals : List ℕ → ℕ → List Row
+referenceWriteRefusals s v = (40 when isNoReference v) ∷ (41 when ltb (length s) 6) ∷ []
+
 abbrev pub writeReference : List ℕ → ℕ → Wrote
 writeReference s v =
-    judge (λ n. record { answer = refused n; bytes = s })
-    ((40 when isNoReference v)
-    ∷ (41 when ltb (length s) 6)
-    ∷ [])
-    (record { answer = given tt; bytes = put s 0 (bytesOf 6 (referenceField v)) })
+    judge (unwritten s) (referenceWriteRefusals s v) (record { answer = given tt; bytes = put s 0 (bytesOf 6 (referenceField v)) })

@@ -1,12 +1,12 @@
 -- Document 01, "Time" and "PES headers"; H.222.0 2.4.3.7: a stamp's field of five bytes, read and written.
 use mathlib.Core.Bool.{Bool, not, _&&_}
 use mathlib.Core.List.{List, [], _∷_}
-use Prim.Native.Nat.{ℕ, _+_, _*_, _/_, _%_, _^_}
+use Prim.Native.Nat.{ℕ}
 use lib.Dec.{leb, ltb, eqb}
 use lib.ListN.{length}
 use Rattle.rules.specs.Answer.{Answer, refused, given}
-use Rattle.rules.specs.Number.{bits, numberAt, bytesOf}
-use Rattle.rules.specs.Refusal.{judge, _when_}
+use Rattle.rules.specs.Number.{bits, Field, field, pack, numberAt, bytesOf}
+use Rattle.rules.specs.Refusal.{Row, judge, _when_}
 use Rattle.rules.specs.Write.{put}
 use Rattle.clock.specs.Range.{isNoStamp}
 use Rattle.clock.specs.declared.Written.{Written}
@@ -15,16 +15,28 @@ use Rattle.clock.specs.declared.stamp.Reading.{Reading}
 use Rattle.clock.specs.declared.stamp.Reading.the-variants as reading
 
 -- the field's 40 bits: prefix 4, stamp[32..30] 3, marker 1, stamp[29..15] 15, marker 1, stamp[14..0] 15, marker 1
+abbrev pub stampLayout : ℕ → ℕ → List Field
+stampLayout prefix v =
+    field 4 prefix
+    ∷ field 3 (bits v 30 3)
+    ∷ field 1 1
+    ∷ field 15 (bits v 15 15)
+    ∷ field 1 1
+    ∷ field 15 (bits v 0 15)
+    ∷ field 1 1
+    ∷ []
+
+-- the field of a stamp behind a prefix, its markers ones
+abbrev pub stampField : ℕ → ℕ → ℕ
+stampField prefix v = pack (stampLayout prefix v)
+
+-- the stamp in a field
 abbrev pub stampOf : ℕ → ℕ
-stampOf n = bits n 33 3 * 2 ^ 30 + bits n 17 15 * 2 ^ 15 + bits n 1 15
+stampOf n = pack (field 3 (bits n 33 3) ∷ field 15 (bits n 17 15) ∷ field 15 (bits n 1 15) ∷ [])
 
 -- "a stamp's four-bit prefix or one of its three marker bits is wrong"
 abbrev pub isUnmarked : ℕ → ℕ → Bool
 isUnmarked n prefix = not (eqb (bits n 36 4) prefix && eqb (bits n 32 1) 1 && eqb (bits n 16 1) 1 && eqb (bits n 0 1) 1)
-
--- the field of a stamp behind a prefix, with its three markers
-abbrev pub stampField : ℕ → ℕ → ℕ
-stampField prefix v = prefix * 2 ^ 36 + bits v 30 3 * 2 ^ 33 + 2 ^ 32 + bits v 15 15 * 2 ^ 17 + 2 ^ 16 + bits v 0 15 * 2 + 1
 
 -- "a stamp prefix other than 1, 2, 3"
 abbrev pub isNoPrefix : ℕ → Bool
@@ -35,15 +47,17 @@ abbrev pub told : Reading → Answer ℕ
 told (reading.Value v) = given (v .0)
 told (reading.Refused n) = refused n
 
--- "Reading a lone field: 40 (prefix), 41, 36": only the field's own first bytes are read
-abbrev pub readStamp : List ℕ → ℕ → Answer ℕ
-readStamp s prefix =
-    judge refused
-    ((40 when isNoPrefix prefix)
+-- "Reading a lone field: 40 (prefix), 41, 36"
+abbrev pub stampReadRefusals : List ℕ → ℕ → List Row
+stampReadRefusals s prefix =
+    (40 when isNoPrefix prefix)
     ∷ (41 when ltb (length s) 5)
     ∷ (36 when isUnmarked (numberAt s 0 5) prefix)
-    ∷ [])
-    (given (stampOf (numberAt s 0 5)))
+    ∷ []
+
+-- "only the field's own first bytes are read"
+abbrev pub readStamp : List ℕ → ℕ → Answer ℕ
+readStamp s prefix = judge refused (stampReadRefusals s prefix) (given (stampOf (numberAt s 0 5)))
 
 -- what a write leaves: its answer, and every byte that was lent
 pub record Wrote : Type 0 where
@@ -54,12 +68,20 @@ abbrev pub wrote : Written → List ℕ → Wrote
 wrote written.Done s = record { answer = given tt; bytes = s }
 wrote (written.Refused n) s = record { answer = refused n; bytes = s }
 
--- "Writing one: 40, 41": a refused write writes no byte, and every other byte is as before
-abbrev pub writeStamp : List ℕ → ℕ → ℕ → Wrote
-writeStamp s prefix v =
-    judge (λ n. record { answer = refused n; bytes = s })
-    ((40 when isNoPrefix prefix)
+-- a refused write writes no byte
+abbrev pub unwritten : List ℕ → ℕ → Wrote
+unwritten s n = record { answer = refused n; bytes = s }
+
+-- "Writing one: 40, 41"
+abbrev pub stampWriteRefusals : List ℕ → ℕ → ℕ → List Row
+stampWriteRefusals s prefix v =
+    (40 when isNoPrefix prefix)
     ∷ (40 when isNoStamp v)
     ∷ (41 when ltb (length s) 5)
-    ∷ [])
+    ∷ []
+
+-- only the field's own first bytes are written, and every other byte is as before
+abbrev pub writeStamp : List ℕ → ℕ → ℕ → Wrote
+writeStamp s prefix v =
+    judge (unwritten s) (stampWriteRefusals s prefix v)
     (record { answer = given tt; bytes = put s 0 (bytesOf 5 (stampField prefix v)) })

@@ -13,7 +13,7 @@ use Rattle.rules.specs.Walk.{Every}
 use Rattle.rules.specs.Number.{numberFrom, numberOf, numberAt, bytesOf, bytesAt, Bytes}
 use Rattle.rules.specs.Write.{put}
 use Rattle.rules.proofs.Walk.{every-take, every-drop}
-use Rattle.rules.proofs.Write.{length-put, written}
+use Rattle.rules.proofs.Write.{length-put, written, put-same}
 
 pub length-bytesOf : (k n : ℕ) → length (bytesOf k n) ≡ k
 length-bytesOf zero n = refl
@@ -90,3 +90,24 @@ bytesAt-bytes s i k h b = rw (bytesAt-part s i k h) (every-take (λ (x : ℕ). x
 -- what was written there is read there
 pub bytesAt-put : (d : List ℕ) (i : ℕ) (s : List ℕ) → i + length s ≤ length d → bytesAt (put d i s) i (length s) ≡ s
 bytesAt-put d i s h = bytesAt-part (put d i s) i (length s) (rw (length-put d i s h) h) ∙ written d i s h
+
+-- a number that was written is read there, and a number that was read is written back
+module _ (s : List ℕ) (i k : ℕ) (fits : i + k ≤ length s) where
+  pub numberAt-put : (n : ℕ) → n < 256 ^ k → numberAt (put s i (bytesOf k n)) i k ≡ n
+  numberAt-put n h =
+      ap numberOf
+      (ap (λ (m : ℕ). bytesAt (put s i (bytesOf k n)) i m) (sym (length-bytesOf k n))
+      ∙ bytesAt-put s i (bytesOf k n) (rw (length-bytesOf k n) fits))
+      ∙ number-bytes k n h
+
+  pub numberAt-lt : Bytes s → numberAt s i k < 256 ^ k
+  numberAt-lt b =
+      rw (length-bytesAt s i k) at (number-split (bytesAt s i k) 0 (bytesAt-bytes s i k fits b) .1)
+
+  pub put-numberAt : Bytes s → put s i (bytesOf k (numberAt s i k)) ≡ s
+  put-numberAt b =
+      ap (λ (bs : List ℕ). put s i bs)
+      (ap (λ (m : ℕ). bytesOf m (numberAt s i k)) (sym (length-bytesAt s i k))
+      ∙ bytes-number (bytesAt s i k) (bytesAt-bytes s i k fits b)
+      ∙ bytesAt-part s i k fits)
+      ∙ put-same s i k fits

@@ -1,7 +1,7 @@
 -- The laws of a table of refusals, both ways: from the rows to what is given, and from what is given to the rows.
 -- Assumes nothing.
 use mathlib.Core.Path.{_≡_, refl, sym, _∙_, ap}
-use mathlib.Core.Bool.{Bool, true, false, cond, not}
+use mathlib.Core.Bool.{Bool, true, false, cond, not, _&&_, false≢true}
 use mathlib.Core.List.{List, [], _∷_, _++_}
 use mathlib.Core.Logic.{_⊎_, inl, inr, ⊎-elim}
 use Prim.Native.Nat.{ℕ, _≤_, _<_}
@@ -51,6 +51,11 @@ module _ {ℓ} {A : Type ℓ} {z : A} where
 -- every test of a table, for `search`
 pub ruleset tests = (yes-by, no-by, yes<, no<, yes≤, no≤, yes≡, no≡, yes≢, no≢)
 
+-- what a test of two parts tells
+pub both-true : (a b : Bool) → (a && b) ≡ true → (a ≡ true) × (b ≡ true)
+both-true true b e = (refl, e)
+both-true false b e = absurd (false≢true e)
+
 -- ---- the whole table
 module _ {ℓ} {A : Type ℓ} (refuse : ℕ → A) (answer : A) where
   -- where no row applies, the answer
@@ -81,13 +86,16 @@ verdict (row ∷ rows) = go (row .applies) refl (verdict rows)
         inr (row .number, record { earlier = []; later = rows; split = ap (λ (b : Bool). (row .number when b) ∷ rows) e; silent = tt })
     go false e v = after e v
 
--- ---- back from what was given: refusals differ from each other and from the answer
+-- ---- back from what was given
 module _ {ℓ} {A : Type ℓ} (refuse : ℕ → A) (answer : A) where
-  -- where the answer was given no row applies
-  pub none : (rows : List Row) → ((n : ℕ) → refuse n ≡ answer → ⊥) → judge refuse rows answer ≡ answer → Silent rows
-  none rows apart e = ⊎-elim (λ s. s) (λ f. absurd (apart (f .0) (sym (refused refuse answer (f .0) rows (f .1)) ∙ e))) (verdict rows)
+  -- where it was no refusal, no row applies and it was the answer
+  pub none : (rows : List Row) (z : A) → ((n : ℕ) → z ≡ refuse n → ⊥) → z ≡ judge refuse rows answer → Silent rows × (z ≡ answer)
+  none rows z apart e =
+      ⊎-elim (λ s. (s, e ∙ accepted refuse answer rows s))
+      (λ f. absurd (apart (f .0) (e ∙ refused refuse answer (f .0) rows (f .1))))
+      (verdict rows)
 
-  -- where n was given n is the first that applies
+  -- where n was given, n is the first that applies; refusals differ from each other and from the answer
   pub only : (rows : List Row) (n : ℕ) → ((m : ℕ) → refuse m ≡ answer → ⊥) → ((m : ℕ) → refuse m ≡ refuse n → m ≡ n)
       → judge refuse rows answer ≡ refuse n → First n rows
   only rows n apart same e =

@@ -80,6 +80,13 @@ module _ {ℓ} {A : Type ℓ} where
             ∙ drop-drop (length t) (at + length s) d
             ∙ ap (λ (n : ℕ). drop n d) (add-assoc at (length s) (length t) ∙ ap (λ (n : ℕ). at + n) (sym (length-append s t)))
 
+  -- a write of what stands there changes nothing
+  pub put-same : (d : List A) (at n : ℕ) → at + n ≤ length d → put d at (take n (drop at d)) ≡ d
+  unfolding put
+  put-same d at n h =
+      let long : length (take n (drop at d)) ≡ n = length-take-le n (drop at d) (simp length-drop (omega arith)) in
+      rw (long, ← drop-drop n at d, take-append-drop n (drop at d)) (take-append-drop at d)
+
   -- stores one after the other are a write
   pub sets-put : (d : List A) (at : ℕ) (s : List A) → at + length s ≤ length d → sets d at s ≡ put d at s
   unfolding put

@@ -31,6 +31,24 @@ bytesOf (suc k) n = (n / 256 ^ k % 256) ∷ bytesOf k n
 abbrev pub bits : ℕ → ℕ → ℕ → ℕ
 bits n after width = n / 2 ^ after % 2 ^ width
 
+-- a field: how many bits it has, and its value
+pub record Field : Type 0 where
+  pub width : ℕ
+  pub value : ℕ
+
+abbrev pub field : ℕ → ℕ → Field
+field width value = record { width = width; value = value }
+
+-- how many bits the fields have
+abbrev pub widths : List Field → ℕ
+widths [] = 0
+widths (f ∷ fs) = f .width + widths fs
+
+-- the number whose bits are the fields side by side, the first the most significant
+abbrev pub pack : List Field → ℕ
+pack [] = 0
+pack (f ∷ fs) = f .value * 2 ^ widths fs + pack fs
+
 -- each is a byte
 abbrev pub Bytes : List ℕ → Type 0
 Bytes = Every (λ b. b < 256)
