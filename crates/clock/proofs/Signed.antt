@@ -2,9 +2,9 @@
 -- Assumes nothing.
 use mathlib.Core.Path.{_≡_, refl, sym, ap}
 use mathlib.Core.Bool.{Bool, true, false, cond}
-use Prim.Native.Nat.{ℕ, suc, _-_, _^_, _<_}
+use Prim.Native.Nat.{ℕ, suc, _-_, _%_, _^_, _≤_, _<_}
+use native.Mathlib.Nat.{mod-lt}
 use native.Mathlib.Omega.{arith}
-use borrow.Author.Tests.{ltb-false}
 use lib.Dec.{ltb}
 use lib.IntN.{ℤ, pos, negsuc, _-ℤ_}
 use mir.Syntax.{w64}
@@ -18,5 +18,9 @@ less-half-fits n h = go (ltb n 4294967296) refl
     go true e = record { sfits = omega arith }
     go false e = record { sfits = omega arith }
 
-pub signed-fits : (n : ℕ) → n < 2 ^ 63 → SFits w64 (toZ w64 n -ℤ pos 4294967296)
-signed-fits n h = rw (toZ-pos w64 n h) (less-half-fits n h)
+-- the same of any remainder, as the code has it
+pub remainder-fits : (w m : ℕ) → 0 < m → m ≤ 2 ^ 63 → SFits w64 (toZ w64 (w % m) -ℤ pos 4294967296)
+remainder-fits w m p h =
+    let below = mod-lt w p in
+    let fits : w % m < 2 ^ 63 = omega arith in
+    rw (toZ-pos w64 (w % m) fits) (less-half-fits (w % m) fits)

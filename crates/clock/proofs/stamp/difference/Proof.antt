@@ -1,16 +1,15 @@
 use native.Mathlib.Omega.{arith}
-use mathlib.Core.Path.{_≡_, refl, sym, _∙_}
+use mathlib.Core.Path.{sym, _∙_}
 use Prim.Native.Nat.{_+_, _%_, _^_, _<_}
 use native.Mathlib.Nat.{mod-eq-of-lt}
-use lib.Dec.{lit<}
+use lib.Dec.{lit<, lit≤}
 use lib.IntN.{pos, _-ℤ_}
 use mir.Syntax.{w64}
 use mir.Val.{toZ}
 use mir.ValLaws.{toZ-pos, toZ-ofZ}
-use Rattle.clock.specs.Modulus.{minusMod}
 use Rattle.clock.specs.Range.{stampTurn}
-use Rattle.clock.proofs.Modulus.{wrapped-reduces}
-use Rattle.clock.proofs.Signed.{signed-fits}
+use Rattle.clock.proofs.Turns.{stamp-wraps}
+use Rattle.clock.proofs.Signed.{remainder-fits}
 use Rattle.rules.proofs.Refusal.{tests}
 use borrow.Author.Needs.{needs}
 use Rattle.clock.proofs.stamp.difference.Statement.{statement}
@@ -41,18 +40,19 @@ cast-t9 c = search needs
 
 -- src/stamp.rt:121:19
 sub-t10 : tie.Need-sub-t10
-sub-t10 c = signed-fits (c .wrapping-sub-u64 .result % 8589934592) (omega arith)
+sub-t10 c = search (remainder-fits, needs)
 
 -- src/stamp.rt:109:1
 returns-3 : tie.Need-returns-3
 returns-3 c =
     let a = c .before .before .before .args in
     let w = c .wrapping-sub-u64 .result in
-    let fits : w % 8589934592 < 2 ^ 63 = omega arith in
-    let reduced : w % 8589934592 ≡ minusMod stampTurn (a .a .0 + 4294967296) (a .b .0) =
-    wrapped-reduces stampTurn (2 ^ 64) (a .a .0 + 4294967296) (a .b .0) w (lit< tt) refl (omega arith)
-    (c .wrapping-sub-u64 .ensures ∙ sym (mod-eq-of-lt (omega arith))) in
-    rw (toZ-ofZ w64 (toZ w64 (w % 8589934592) -ℤ pos 4294967296) (signed-fits (w % 8589934592) fits), toZ-pos w64 (w % 8589934592) fits, reduced)
+    let below : w % stampTurn < 2 ^ 63 = omega arith in
+    rw (
+      toZ-ofZ w64 (toZ w64 (w % stampTurn) -ℤ pos 4294967296) (remainder-fits w stampTurn (lit< tt) (lit≤ tt)),
+      toZ-pos w64 (w % stampTurn) below,
+      stamp-wraps (a .a .0 + 4294967296) (a .b .0) w (search) (c .wrapping-sub-u64 .ensures ∙ sym (mod-eq-of-lt (omega arith))),
+    )
     (search (tests, arith))
 
 pub difference-spec : {M : Type 1} → statement M
