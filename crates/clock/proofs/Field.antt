@@ -13,7 +13,7 @@ use lib.Pow.{pow-pos}
 use borrow.Author.Tests.{eq-eqb, eqb-true, not-false}
 use Rattle.rules.specs.Number.{Field, field, pack, bits}
 use Rattle.rules.specs.Walk.{Every}
-use Rattle.rules.proofs.Refusal.{both-true}
+use Rattle.rules.proofs.Test.{both-true}
 use Rattle.rules.proofs.Field.{Fitting, pack-lt, pack-unpack, unpack, unpack-pack}
 use Rattle.clock.specs.Range.{stampTurn, referenceTurn}
 use Rattle.clock.specs.Stamp.{stampOf, stampField, stampLayout, isUnmarked}

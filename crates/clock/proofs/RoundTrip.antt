@@ -15,7 +15,8 @@ use Rattle.rules.specs.Refusal.{judge, Silent, _when_}
 use Rattle.rules.specs.Write.{put}
 use Rattle.rules.proofs.Answer.{given-apart, given-same}
 use Rattle.rules.proofs.Number.{length-bytesOf, numberAt-put, numberAt-lt, put-numberAt}
-use Rattle.rules.proofs.Refusal.{accepted, none, both-true}
+use Rattle.rules.proofs.Refusal.{accepted, none}
+use Rattle.rules.proofs.Test.{both-true}
 use Rattle.rules.proofs.Write.{length-put}
 use Rattle.clock.specs.Range.{isNoStamp, isNoReference, stampTurn, referenceTurn}
 use Rattle.clock.specs.Stamp.{Wrote, wrote, unwritten, readStamp, writeStamp, stampReadRefusals, stampWriteRefusals, isNoPrefix, isUnmarked, stampOf, stampField}

@@ -1,4 +1,5 @@
 pub mod Answer
+pub mod Test
 pub mod Refusal
 pub mod Write
 pub mod Walk

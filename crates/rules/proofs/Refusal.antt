@@ -1,7 +1,7 @@
 -- The laws of a table of refusals, both ways: from the rows to what is given, and from what is given to the rows.
 -- Assumes nothing.
 use mathlib.Core.Path.{_≡_, refl, sym, _∙_, ap}
-use mathlib.Core.Bool.{Bool, true, false, cond, not, _&&_, false≢true}
+use mathlib.Core.Bool.{Bool, true, false, cond, not}
 use mathlib.Core.List.{List, [], _∷_, _++_}
 use mathlib.Core.Logic.{_⊎_, inl, inr, ⊎-elim}
 use Prim.Native.Nat.{ℕ, _≤_, _<_}
@@ -50,11 +50,6 @@ module _ {ℓ} {A : Type ℓ} {z : A} where
 
 -- every test of a table, for `search`
 pub ruleset tests = (yes-by, no-by, yes<, no<, yes≤, no≤, yes≡, no≡, yes≢, no≢)
-
--- what a test of two parts tells
-pub both-true : (a b : Bool) → (a && b) ≡ true → (a ≡ true) × (b ≡ true)
-both-true true b e = (refl, e)
-both-true false b e = absurd (false≢true e)
 
 -- ---- the whole table
 module _ {ℓ} {A : Type ℓ} (refuse : ℕ → A) (answer : A) where

@@ -1,7 +1,7 @@
 -- The laws of searching, counting and adding up, by index and tail: what a loop at index i knows of the rest of the list, and what a store changes.
 -- Assumes nothing.
 use mathlib.Core.Path.{_≡_, refl, sym, _∙_, ap}
-use mathlib.Core.Bool.{Bool, true, false, cond, _&&_, false≢true}
+use mathlib.Core.Bool.{Bool, true, false, cond, not, _&&_, false≢true}
 use mathlib.Core.List.{List, [], _∷_, _++_}
 use Prim.Native.Nat.{ℕ, zero, suc, _+_, _≤_, _<_, zero-le, suc-le-suc}
 use native.Mathlib.Nat.{not-suc-le-zero, le-of-suc-le-suc, zero-add, add-zero, add-assoc}
@@ -9,7 +9,9 @@ use native.Mathlib.Numerals.{add-one}
 use native.Mathlib.Omega.{arith}
 use lib.ListN.{length, getD, take, drop, set}
 use lib.Seq.{drop-cons}
-use Rattle.rules.specs.Walk.{find, total, count, all, Every}
+use Rattle.rules.specs.Walk.{find, total, count, all, apart, Every}
+use Rattle.rules.proofs.Test.{both-true}
+use borrow.Author.Tests.{not-true}
 
 module _ {ℓ} {A : Type ℓ} where
   -- ---- find
@@ -147,3 +149,24 @@ module _ {ℓ} {A : Type ℓ} (P : A → Type 0) where
   every-drop zero l e = e
   every-drop (suc n) [] e = tt
   every-drop (suc n) (x ∷ xs) e = every-drop n xs (e .1)
+
+-- ---- apart
+module _ {ℓ} {A : Type ℓ} (clash : A → A → Bool) where
+  -- of two elements that are apart the earlier does not clash with the later
+  pub apart-at : (l : List A) (d : A) → apart clash l ≡ true → (i j : ℕ) → i < j → j < length l → clash (getD l i d) (getD l j d) ≡ false
+  apart-at [] d e i j h b = absurd (not-suc-le-zero b)
+  apart-at (x ∷ xs) d e zero (suc j) h b =
+      not-true (clash x (getD xs j d))
+      (all-at (λ y. not (clash x y)) xs d (both-true (all (λ y. not (clash x y)) xs) (apart clash xs) e .0) j (le-of-suc-le-suc b))
+  apart-at (x ∷ xs) d e (suc i) (suc j) h b =
+      apart-at xs d (both-true (all (λ y. not (clash x y)) xs) (apart clash xs) e .1) i j (le-of-suc-le-suc h) (le-of-suc-le-suc b)
+  apart-at (x ∷ xs) d e zero zero h b = absurd (not-suc-le-zero h)
+  apart-at (x ∷ xs) d e (suc i) zero h b = absurd (not-suc-le-zero h)
+
+  pub apart-of : (l : List A) (d : A) → ((i j : ℕ) → i < j → j < length l → clash (getD l i d) (getD l j d) ≡ false) → apart clash l ≡ true
+  apart-of [] d each = refl
+  apart-of (x ∷ xs) d each =
+      rw (
+        all-of (λ y. not (clash x y)) xs d (λ j h. ap not (each 0 (suc j) (suc-le-suc zero-le) (suc-le-suc h))),
+        apart-of xs d (λ i j h b. each (suc i) (suc j) (suc-le-suc h) (suc-le-suc b)),
+      )

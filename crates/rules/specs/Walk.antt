@@ -24,6 +24,11 @@ module _ {ℓ} {A : Type ℓ} where
   all p [] = true
   all p (x ∷ xs) = p x && all p xs
 
+  -- no two elements clash
+  abbrev pub apart : (A → A → Bool) → List A → Bool
+  apart clash [] = true
+  apart clash (x ∷ xs) = all (λ y. not (clash x y)) xs && apart clash xs
+
   -- P holds of every element
   abbrev pub Every : (A → Type 0) → List A → Type 0
   Every P [] = Unit {0}
