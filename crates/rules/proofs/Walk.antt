@@ -7,7 +7,7 @@ use Prim.Native.Nat.{ℕ, zero, suc, _+_, _≤_, _<_, zero-le, suc-le-suc}
 use native.Mathlib.Nat.{not-suc-le-zero, le-of-suc-le-suc, zero-add, add-zero, add-assoc}
 use native.Mathlib.Numerals.{add-one}
 use native.Mathlib.Omega.{arith}
-use lib.ListN.{length, getD, take, drop, set}
+use lib.ListN.{length, getD, take, drop, set, drop-of-length-le}
 use lib.Seq.{drop-cons}
 use Rattle.rules.specs.Walk.{find, total, count, all, apart, Every}
 use Rattle.rules.proofs.Test.{both-true}
@@ -124,6 +124,17 @@ module _ {ℓ} {A : Type ℓ} where
   all-of p [] d each = refl
   all-of p (x ∷ xs) d each =
       rw (each 0 (suc-le-suc zero-le)) (all-of p xs d (λ i h. each (suc i) (suc-le-suc h)))
+
+  -- a loop that tests every element, where what is left to test is what the answer hangs on: it stops, goes on, ends
+  pub all-stops : (p : A → Bool) (l : List A) (i : ℕ) (d : A) → i < length l → p (getD l i d) ≡ false → all p l ≡ all p (drop i l) → all p l ≡ false
+  all-stops p l i d h e q = q ∙ all-turn p l i d h ∙ ap (λ (b : Bool). b && all p (drop (suc i) l)) e
+
+  pub all-goes : (p : A → Bool) (l : List A) (i : ℕ) (d : A) → i < length l → p (getD l i d) ≡ true → all p l ≡ all p (drop i l)
+      → all p l ≡ all p (drop (i + 1) l)
+  all-goes p l i d h e q = q ∙ all-turn p l i d h ∙ ap (λ (b : Bool). b && all p (drop (suc i) l)) e ∙ ap (λ (n : ℕ). all p (drop n l)) (sym (add-one i))
+
+  pub all-ends : (p : A → Bool) (l : List A) (i : ℕ) → length l ≤ i → all p l ≡ all p (drop i l) → all p l ≡ true
+  all-ends p l i h q = q ∙ ap (all p) (drop-of-length-le l h)
 
 -- ---- Every
 module _ {ℓ} {A : Type ℓ} (P : A → Type 0) where
