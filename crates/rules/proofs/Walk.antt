@@ -125,16 +125,17 @@ module _ {ℓ} {A : Type ℓ} where
   all-of p (x ∷ xs) d each =
       rw (each 0 (suc-le-suc zero-le)) (all-of p xs d (λ i h. each (suc i) (suc-le-suc h)))
 
-  -- a loop that tests every element, where what is left to test is what the answer hangs on: it stops, goes on, ends
-  pub all-stops : (p : A → Bool) (l : List A) (i : ℕ) (d : A) → i < length l → p (getD l i d) ≡ false → all p l ≡ all p (drop i l) → all p l ≡ false
-  all-stops p l i d h e q = q ∙ all-turn p l i d h ∙ ap (λ (b : Bool). b && all p (drop (suc i) l)) e
+  -- a loop that tests every element, where the answer r hangs on what is left to test: it stops, goes on, ends
+  module _ (p : A → Bool) (l : List A) (i : ℕ) (r : Bool) (left : r ≡ all p (drop i l)) where
+    pub all-stops : (d : A) → i < length l → p (getD l i d) ≡ false → r ≡ false
+    all-stops d h e = left ∙ all-turn p l i d h ∙ ap (λ (b : Bool). b && all p (drop (suc i) l)) e
 
-  pub all-goes : (p : A → Bool) (l : List A) (i : ℕ) (d : A) → i < length l → p (getD l i d) ≡ true → all p l ≡ all p (drop i l)
-      → all p l ≡ all p (drop (i + 1) l)
-  all-goes p l i d h e q = q ∙ all-turn p l i d h ∙ ap (λ (b : Bool). b && all p (drop (suc i) l)) e ∙ ap (λ (n : ℕ). all p (drop n l)) (sym (add-one i))
+    pub all-goes : (d : A) → i < length l → p (getD l i d) ≡ true → r ≡ all p (drop (i + 1) l)
+    all-goes d h e =
+        left ∙ all-turn p l i d h ∙ ap (λ (b : Bool). b && all p (drop (suc i) l)) e ∙ ap (λ (n : ℕ). all p (drop n l)) (sym (add-one i))
 
-  pub all-ends : (p : A → Bool) (l : List A) (i : ℕ) → length l ≤ i → all p l ≡ all p (drop i l) → all p l ≡ true
-  all-ends p l i h q = q ∙ ap (all p) (drop-of-length-le l h)
+    pub all-ends : length l ≤ i → r ≡ true
+    all-ends h = left ∙ ap (all p) (drop-of-length-le l h)
 
 -- ---- Every
 module _ {ℓ} {A : Type ℓ} (P : A → Type 0) where
@@ -181,3 +182,20 @@ module _ {ℓ} {A : Type ℓ} (clash : A → A → Bool) where
         all-of (λ y. not (clash x y)) xs d (λ j h. ap not (each 0 (suc j) (suc-le-suc zero-le) (suc-le-suc h))),
         apart-of xs d (λ i j h b. each (suc i) (suc j) (suc-le-suc h) (suc-le-suc b)),
       )
+
+  -- a loop that tests every element against the later ones
+  module _ (l : List A) (i : ℕ) (r : Bool) (left : r ≡ apart clash (drop i l)) where
+    pub apart-stops : (d : A) → i < length l → all (λ y. not (clash (getD l i d) y)) (drop (i + 1) l) ≡ false → r ≡ false
+    apart-stops d h e =
+        left ∙ ap (apart clash) (drop-cons l i d h)
+        ∙ ap (λ (n : ℕ). all (λ y. not (clash (getD l i d) y)) (drop n l) && apart clash (drop (suc i) l)) (sym (add-one i))
+        ∙ ap (λ (b : Bool). b && apart clash (drop (suc i) l)) e
+
+    pub apart-goes : (d : A) → i < length l → all (λ y. not (clash (getD l i d) y)) (drop (i + 1) l) ≡ true → r ≡ apart clash (drop (i + 1) l)
+    apart-goes d h e =
+        left ∙ ap (apart clash) (drop-cons l i d h)
+        ∙ ap (λ (n : ℕ). all (λ y. not (clash (getD l i d) y)) (drop n l) && apart clash (drop n l)) (sym (add-one i))
+        ∙ ap (λ (b : Bool). b && apart clash (drop (i + 1) l)) e
+
+    pub apart-ends : length l ≤ i → r ≡ true
+    apart-ends h = left ∙ ap (apart clash) (drop-of-length-le l h)
