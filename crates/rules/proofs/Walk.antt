@@ -66,6 +66,18 @@ module _ {ℓ} {A : Type ℓ} where
       → find p (drop i l) ≡ suc (find p (drop (suc i) l))
   find-on p l i d h e = rw (drop-cons l i d h, e)
 
+  -- a loop that searches, where the answer r hangs on what is left to search: it stops, goes on, ends
+  module _ (p : A → Bool) (l : List A) (i r : ℕ) (left : r ≡ i + find p (drop i l)) where
+    pub find-stops : (d : A) → i < length l → p (getD l i d) ≡ true → r ≡ i
+    find-stops d h e = left ∙ ap (λ (n : ℕ). i + n) (find-here p l i d h e) ∙ add-zero i
+
+    pub find-goes : (d : A) → i < length l → p (getD l i d) ≡ false → r ≡ i + 1 + find p (drop (i + 1) l)
+    find-goes d h e =
+        left ∙ ap (λ (n : ℕ). i + n) (find-on p l i d h e) ∙ ap (λ (n : ℕ). i + suc (find p (drop n l))) (sym (add-one i)) ∙ omega arith
+
+    pub find-ends : length l ≤ i → r ≡ i
+    find-ends h = left ∙ ap (λ (m : List A). i + find p m) (drop-of-length-le l h) ∙ add-zero i
+
   -- ---- total, and count, which is one
   -- a turn of a loop that adds up
   pub total-turn : (f : A → ℕ) (l : List A) (i : ℕ) (d : A) → i < length l → total f (drop i l) ≡ f (getD l i d) + total f (drop (suc i) l)
