@@ -2,12 +2,12 @@
 -- Assumes nothing.
 use mathlib.Core.Path.{_≡_, refl, sym, _∙_, ap}
 use mathlib.Core.Bool.{Bool, true, false, cond, not, _&&_, false≢true}
-use mathlib.Core.List.{List, [], _∷_, _++_}
+use mathlib.Core.List.{List, [], _∷_, _++_, map}
 use Prim.Native.Nat.{ℕ, zero, suc, _+_, _≤_, _<_, zero-le, suc-le-suc}
 use native.Mathlib.Nat.{not-suc-le-zero, le-of-suc-le-suc, zero-add, add-zero, add-assoc}
 use native.Mathlib.Numerals.{add-one}
 use native.Mathlib.Omega.{arith}
-use lib.ListN.{length, getD, take, drop, set, drop-of-length-le}
+use lib.ListN.{length, getD, take, drop, set, length-map, drop-of-length-le}
 use lib.Seq.{drop-cons}
 use Rattle.rules.specs.Walk.{find, total, count, all, apart, Every}
 use Rattle.rules.proofs.Test.{both-true}
@@ -211,3 +211,7 @@ module _ {ℓ} {A : Type ℓ} (clash : A → A → Bool) where
 
     pub apart-ends : length l ≤ i → r ≡ true
     apart-ends h = left ∙ ap (apart clash) (drop-of-length-le l h)
+
+-- ---- an array that is a struct's field: its length is told of the list with a function mapped over it
+pub mapped-length {ℓ ℓ′} : {A : Type ℓ} {B : Type ℓ′} (f : A → B) (l : List A) (n : ℕ) → length (map f l) ≡ n → length l ≡ n
+mapped-length f l n e = sym (length-map l f) ∙ e
