@@ -1,14 +1,15 @@
 -- The laws of searching, counting and adding up, by index and tail: what a loop at index i knows of the rest of the list, and what a store changes.
 -- Assumes nothing.
-use mathlib.Core.Path.{_≡_, refl, sym, _∙_, ap}
+use mathlib.Core.Path.{_≡_, refl, sym, _∙_, ap, ap₂}
 use mathlib.Core.Bool.{Bool, true, false, cond, not, _&&_, false≢true}
 use mathlib.Core.List.{List, [], _∷_, _++_, map}
 use Prim.Native.Nat.{ℕ, zero, suc, _+_, _≤_, _<_, zero-le, suc-le-suc}
 use native.Mathlib.Nat.{not-suc-le-zero, le-of-suc-le-suc, zero-add, add-zero, add-assoc}
 use native.Mathlib.Numerals.{add-one}
 use native.Mathlib.Omega.{arith}
-use lib.ListN.{length, getD, take, drop, set, length-map, drop-of-length-le}
-use lib.Seq.{drop-cons}
+use lib.ListN.{length, getD, take, drop, set, length-set, length-map, drop-of-length-le}
+use lib.Seq.{drop-cons, getD-set-same, getD-set-other}
+use native.Mathlib.Decide.{ℕ-discrete}
 use Rattle.rules.specs.Walk.{find, total, count, all, apart, Every}
 use Rattle.rules.proofs.Test.{both-true}
 use borrow.Author.Tests.{not-true}
@@ -149,6 +150,14 @@ module _ {ℓ} {A : Type ℓ} where
     pub all-ends : length l ≤ i → r ≡ true
     all-ends h = left ∙ ap (all p) (drop-of-length-le l h)
 
+  -- a store of what passes keeps all passing
+  pub all-set : (p : A → Bool) (l : List A) (i : ℕ) (x d : A) → all p l ≡ true → p x ≡ true → all p (set l i x) ≡ true
+  all-set p l i x d e q = all-of p (set l i x) d (λ j h. go j (rw length-set at h) (ℕ-discrete j i))
+    where
+      go : (j : ℕ) → j < length l → Dec (j ≡ i) → p (getD (set l i x) j d) ≡ true
+      go j h (yes r) = ap (λ (k : ℕ). p (getD (set l i x) k d)) r ∙ ap p (getD-set-same l i x d (rw r at h)) ∙ q
+      go j h (no n) = ap p (getD-set-other l i j x d n) ∙ all-at p l d e j h
+
 -- ---- Every
 module _ {ℓ} {A : Type ℓ} (P : A → Type 0) where
   pub every-at : (l : List A) (d : A) → Every P l → (i : ℕ) → i < length l → P (getD l i d)
@@ -194,6 +203,20 @@ module _ {ℓ} {A : Type ℓ} (clash : A → A → Bool) where
         all-of (λ y. not (clash x y)) xs d (λ j h. ap not (each 0 (suc j) (suc-le-suc zero-le) (suc-le-suc h))),
         apart-of xs d (λ i j h b. each (suc i) (suc j) (suc-le-suc h) (suc-le-suc b)),
       )
+
+  -- a store of what clashes with no other keeps all apart
+  pub apart-set : (l : List A) (i : ℕ) (x d : A) → apart clash l ≡ true
+      → ((j : ℕ) → j < length l → (j ≡ i → ⊥) → (clash x (getD l j d) ≡ false) × (clash (getD l j d) x ≡ false)) → apart clash (set l i x) ≡ true
+  apart-set l i x d e alone = apart-of (set l i x) d (λ j k h b. go j k h (rw length-set at b) (ℕ-discrete j i) (ℕ-discrete k i))
+    where
+      go : (j k : ℕ) → j < k → k < length l → Dec (j ≡ i) → Dec (k ≡ i) → clash (getD (set l i x) j d) (getD (set l i x) k d) ≡ false
+      go j k h b (yes p) (yes q) = absurd (omega arith)
+      go j k h b (yes p) (no n) =
+          ap₂ clash (ap (λ (m : ℕ). getD (set l i x) m d) p ∙ getD-set-same l i x d (omega arith)) (getD-set-other l i k x d n) ∙ alone k b n .0
+      go j k h b (no m) (yes q) =
+          ap₂ clash (getD-set-other l i j x d m) (ap (λ (m : ℕ). getD (set l i x) m d) q ∙ getD-set-same l i x d (omega arith)) ∙ alone j (omega arith) m .1
+      go j k h b (no m) (no n) =
+          ap₂ clash (getD-set-other l i j x d m) (getD-set-other l i k x d n) ∙ apart-at l d e j k h b
 
   -- a loop that tests every element against the later ones
   module _ (l : List A) (i : ℕ) (r : Bool) (left : r ≡ apart clash (drop i l)) where
