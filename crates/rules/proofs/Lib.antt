@@ -1,8 +1,10 @@
 pub mod Answer
 pub mod Test
 pub mod Refusal
+pub mod Judged
 pub mod Write
 pub mod Walk
 pub mod Number
+pub mod Part
 pub mod Outcome
 pub mod Field

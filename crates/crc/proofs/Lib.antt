@@ -1,0 +1,7 @@
+pub mod Examples
+pub mod Xor
+pub mod Turn
+pub mod Bridge
+pub mod Entries
+pub mod Rule
+pub mod Outcomes

@@ -1,0 +1,3 @@
+pub mod Figure
+pub mod Register
+pub mod Table

@@ -1,0 +1,15 @@
+pub mod Classes
+pub mod Parts
+pub mod Walk
+pub mod Adding
+pub mod Sized
+pub mod Carrying
+pub mod Accepting
+pub mod Laws
+pub mod Cutting
+pub mod Exactly
+pub mod Spread
+pub mod Stored
+pub mod Stars
+pub mod Examples
+pub mod Outcomes

@@ -1,0 +1,75 @@
+-- The sizes of what bytes give, as the code finds them: by the kind of what stands first.
+-- Assumes nothing.
+use mathlib.Core.Path.{_≡_, sym, _∙_, ap}
+use mathlib.Core.List.{List, [], _++_}
+use Prim.Native.Nat.{ℕ, suc, _+_, _≤_, _<_}
+use native.Mathlib.Nat.{add-zero, add-assoc}
+use native.Mathlib.Omega.{arith}
+use lib.ListN.{length, take, drop, length-append}
+use lib.Seq.{length-take-le, drop-drop}
+use Rattle.gather.specs.declared.section.Kind.{Kind}
+use Rattle.gather.specs.declared.section.Kind.the-variants.{Nothing, Part, Overlong, Whole}
+use Rattle.gather.specs.declared.measure.Sizes.{Sizes}
+use Rattle.gather.specs.Section.{classify, join}
+use Rattle.gather.specs.Rule.{Yield, nothing, first, after, walk, add}
+use Rattle.gather.specs.Memory.{bytesAt}
+use Rattle.gather.specs.Steps.{sizesOf}
+use Rattle.gather.proofs.Classes.{whole-fits, size-is}
+use Rattle.gather.proofs.Walk.{walk-kind}
+use Rattle.gather.proofs.Adding.{add-none, add-kind}
+use Rattle.gather.proofs.Parts.{append-nil, length-part}
+
+-- ---- bytes added to held ones
+-- the sizes with no bytes held, and by the kind of the held bytes with the new ones after them
+module _ (n : ℕ) (store : List ℕ) (base : ℕ) (new : List ℕ) (fits : base + n ≤ length store) where
+  pub sizes-none : n ≡ 0 → sizesOf nothing ≡ sizesOf (add (bytesAt n store base) new)
+  sizes-none e = ap sizesOf (sym (add-none (bytesAt n store base) new (length-part n store base fits ∙ e)))
+
+  pub sizes-kind : (n ≡ 0 → ⊥) → (k : Kind) → k ≡ classify (bytesAt n store base ++ new)
+      → sizesOf (first k (bytesAt n store base ++ new) nothing) ≡ sizesOf (add (bytesAt n store base) new)
+  sizes-kind some k e =
+      let h : 0 < length (bytesAt n store base) = rw (length-part n store base fits) (omega arith) in
+      ap sizesOf (sym (add-kind (bytesAt n store base) new k h (sym e)))
+
+  pub sizes-part : (n ≡ 0 → ⊥) → (m : ℕ) → length new ≡ m → Part ≡ classify (bytesAt n store base ++ new)
+      → record { sections = 0; bytes = 0; held = n + m; «given_up» = 0 } ≡ sizesOf (add (bytesAt n store base) new)
+  sizes-part some m l e =
+      let size : length (bytesAt n store base ++ new) ≡ n + m = rw (length-append (bytesAt n store base) new, length-part n store base fits, l) in
+      ap (λ (k : ℕ). record { sections = 0; bytes = 0; held = k; «given_up» = 0 }) (sym size) ∙ sizes-kind some Part e
+
+  pub sizes-whole : (n ≡ 0 → ⊥) → (k : ℕ) → Whole k ≡ classify (bytesAt n store base ++ new)
+      → record { sections = 1; bytes = k; held = 0; «given_up» = 0 } ≡ sizesOf (add (bytesAt n store base) new)
+  sizes-whole some k e =
+      let w = whole-fits (bytesAt n store base ++ new) k (sym e) in
+      let cut = take k (bytesAt n store base ++ new) in
+      let size : length (cut ++ []) ≡ k = ap length (append-nil cut) ∙ length-take-le k (bytesAt n store base ++ new) (w .within) in
+      ap (λ (m : ℕ). record { sections = 1; bytes = m; held = 0; «given_up» = 0 }) (sym size) ∙ sizes-kind some (Whole k) e
+
+-- ---- section after section
+-- sizes that grew by some sections and their bytes
+abbrev pub grown : ℕ → ℕ → Sizes → Sizes
+grown n b z = record { sections = n + z .sections; bytes = b + z .bytes; held = z .held; «given_up» = z .«given_up» }
+
+module _ (s : List ℕ) (n b : ℕ) where
+  -- where no whole section stands the walk ends
+  ends : (k : Kind) → classify s ≡ k → grown n b (sizesOf (walk s)) ≡ grown n b (sizesOf (first k s (walk (after k s))))
+  ends k e = ap (λ (y : Yield). grown n b (sizesOf y)) (walk-kind s k e)
+
+  pub ends-nothing : classify s ≡ Nothing → grown n b (sizesOf (walk s)) ≡ record { sections = n; bytes = b; held = 0; «given_up» = 0 }
+  ends-nothing e = rw (ends Nothing e, add-zero n, add-zero b)
+
+  pub ends-part : classify s ≡ Part → grown n b (sizesOf (walk s)) ≡ record { sections = n; bytes = b; held = length s; «given_up» = 0 }
+  ends-part e = rw (ends Part e, add-zero n, add-zero b)
+
+  pub ends-overlong : classify s ≡ Overlong → grown n b (sizesOf (walk s)) ≡ record { sections = n; bytes = b; held = 0; «given_up» = 1 }
+  ends-overlong e = rw (ends Overlong e, add-zero n, add-zero b)
+
+-- a whole section makes the sizes grow by one section and its bytes
+pub grows : (l : List ℕ) (at k n b : ℕ) → classify (drop at l) ≡ Whole k
+    → grown n b (sizesOf (walk (drop at l))) ≡ grown (n + 1) (b + k) (sizesOf (walk (drop (at + k) l)))
+grows l at k n b e =
+    let w = whole-fits (drop at l) k e in
+    let y = walk (drop (at + k) l) in
+    let size : length (take k (drop at l) ++ join (y .sections)) ≡ k + length (join (y .sections)) = size-is (drop at l) (join (y .sections)) k (w .within) in
+    let p : n + suc (length (y .sections)) ≡ n + 1 + length (y .sections) = omega arith in
+    rw (ends (drop at l) n b (Whole k) e, drop-drop k at l, size, p, ← add-assoc b k (length (join (y .sections))))

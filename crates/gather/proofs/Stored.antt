@@ -1,0 +1,76 @@
+-- The rule on memory, for those who call it: it is not refused where the sizes serve, and what stands in the store after it is what the rule remembers.
+-- Assumes nothing.
+use mathlib.Core.Path.{_≡_, refl, _∙_, ap, ap₂}
+use mathlib.Core.Bool.{Bool, true, false, not}
+use mathlib.Core.List.{List}
+use Prim.Native.Nat.{ℕ, _+_, _-_, _*_, _≤_, _<_}
+use native.Mathlib.Omega.{arith}
+use lib.ListN.{length, take}
+use borrow.Author.Tests.{le-ltb}
+use Rattle.rules.proofs.Refusal.{accepted}
+use Rattle.rules.specs.Write.{put}
+use Rattle.rules.proofs.Write.{written}
+use Rattle.gather.specs.declared.Marks.{Marks}
+use Rattle.gather.specs.declared.Gathering.the-variants.{Refused}
+use Rattle.rules.specs.Walk.{Every}
+use Rattle.gather.specs.Section.{join, cut}
+use Rattle.gather.specs.Rule.{Last, unseen, seen, State, Packet, rule}
+use Rattle.gather.specs.Memory.{soundMarks, lastOf, isSeen, counterOf, marksOf, stateOf, contradictsOf, unfit, gatherOf, handed, wrote}
+use Rattle.gather.specs.Steps.{Room}
+use Rattle.gather.proofs.Accepting.{sound-says, marks-again}
+use Rattle.gather.proofs.Walk.{IsWhole}
+use Rattle.gather.proofs.Laws.{rule-keeps}
+use Rattle.gather.proofs.Cutting.{cut-join}
+
+-- where the sizes serve and the marks are sound, the answer is the rule's
+pub serves : (m : Marks) (counter : ℕ) (start : Bool) (payload store : List ℕ) (base : ℕ) (out : List ℕ)
+    → Room (m .held) payload store base out → soundMarks m ≡ true
+    → gatherOf m counter start payload store base out
+    ≡ handed (rule (stateOf m store base) (record { counter = counter; start = start; payload = payload })) store base out
+unfolding gatherOf
+serves m counter start payload store base out r s =
+    accepted (λ n. wrote (Refused n) store out)
+    (handed (rule (stateOf m store base) (record { counter = counter; start = start; payload = payload })) store base out)
+    (unfit m payload store base out) (
+      le-ltb (length store) 4096 (omega (arith, r)),
+      (
+        le-ltb (length store - 4096) base (omega (arith, r)),
+        (ap not s, (le-ltb 184 (length payload) (r .short), (le-ltb (length out) 4278 (r .output), tt))),
+      ),
+    )
+
+-- the house's sizes serve: a store of 32,768 bytes, area i of 8, a payload of a packet and an output of at least 4,278 bytes
+pub house : (m : Marks) (payload store : List ℕ) (i : ℕ) (out : List ℕ) → soundMarks m ≡ true → length store ≡ 32768 → i < 8 → length payload ≤ 184 → 4278 ≤ length out
+    → Room (m .held) payload store (4096 * i) out
+house m payload store i out s l h p o = record { bound = sound-says m s .held; short = p; area = omega arith; output = o }
+
+-- a last counter is read back from its marks
+last-again : (l : Last) → lastOf (isSeen l) (counterOf l) ≡ l
+last-again unseen = refl
+last-again (seen l) = refl
+
+-- what the rule remembers is read back from its marks and from the store
+pub state-again : (n : State) (store : List ℕ) (base : ℕ) → base + length (n .held) ≤ length store
+    → stateOf (marksOf n) (put store base (n .held)) base ≡ n
+state-again n store base h =
+    ap₂ (λ (held : List ℕ) (last : Last). record { held = held; last = last }) (written store base (n .held) h) (last-again (n .last))
+
+-- after a call refusal 9 cannot follow, and the marks are sound
+module _ (m : Marks) (counter : ℕ) (start : Bool) (payload store : List ℕ) (base : ℕ) (out : List ℕ) (r : Room (m .held) payload store base out)
+    (s : soundMarks m ≡ true) (h : contradictsOf (m .held) store base ≡ false) where
+  pub never-contradicts :
+      let n = rule (stateOf m store base) (record { counter = counter; start = start; payload = payload }) .next in
+      contradictsOf (marksOf n .held) (put store base (n .held)) base ≡ false
+  never-contradicts =
+      let p : Packet = record { counter = counter; start = start; payload = payload } in
+      let k = rule-keeps (stateOf m store base) p h in
+      rw (written store base (rule (stateOf m store base) p .next .held) (omega (arith, k .held, r))) (k .part)
+
+  pub stays-sound : counter ≤ 15 → soundMarks (marksOf (rule (stateOf m store base) (record { counter = counter; start = start; payload = payload }) .next)) ≡ true
+  stays-sound c =
+      rule-keeps (stateOf m store base) (record { counter = counter; start = start; payload = payload }) h .sound
+      (ap soundMarks (marks-again m store base s (r .area)) ∙ s) c
+
+-- whole sections joined at the start of the output are cut from its first bytes again
+pub output-cut : (ss : List (List ℕ)) (out : List ℕ) → Every IsWhole ss → length (join ss) ≤ length out → cut (take (length (join ss)) (put out 0 (join ss))) ≡ ss
+output-cut ss out w h = rw (written out 0 (join ss) (omega arith)) (cut-join ss w)

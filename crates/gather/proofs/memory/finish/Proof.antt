@@ -1,0 +1,39 @@
+-- `finish` copies from the store what is held and from the payload the rest.
+-- Assumes nothing.
+use denote.Ref.{now}
+use Rattle.gather.proofs.Carrying.{finish-put}
+use Rattle.gather.specs.Memory.{bytesAt}
+use Rattle.rules.specs.Write.{put}
+use Prim.Native.Nat.{ℕ, _-_}
+use mathlib.Core.List.{List}
+use mathlib.Core.Path.{_∙_, ap}
+use borrow.Author.Needs.{needs}
+use Rattle.gather.proofs.memory.finish.Statement.{statement}
+use Rattle.gather.proofs.memory.finish.Tie as tie
+
+least-requires : tie.Need-least-requires
+least-requires c κs = search needs
+
+copy-requires : tie.Need-copy-requires
+copy-requires c κs = search needs
+
+sub-copy : tie.Need-sub-copy
+sub-copy c = search needs
+
+copy-requires-2 : tie.Need-copy-requires-2
+copy-requires-2 c κs = search needs
+
+same-length : tie.Need-same-length
+same-length c = search needs
+
+returns : tie.Need-returns
+returns c = let a = c .before .before .before .before .before .before .before .before .before .before .before .before .args in
+    let first = c .before .before .before .before .before .before .before .before .least .result in
+    c .before .before .copy2 .ensures
+    ∙ ap (λ (l : List ℕ). put l first (bytesAt (a .bytes - first) (now (a .payload)) (a .from))) (c .before .before .before .before .before .before .copy .ensures)
+    ∙ finish-put (now (a .out)) (now (a .store)) (now (a .payload)) (a .base) (a .held) (a .from) (a .bytes) first
+    (c .before .before .before .before .before .before .before .before .before .before .before .before .pre .0) (c .before .before .before .before .before .before .before .before .before .before .before .before .pre .1) (c .before .before .before .before .before .before .before .before .before .before .before .before .pre .2) (c .before .before .before .before .before .before .before .before .least .ensures)
+
+pub finish-spec : {M : Type 1} → statement M
+finish-spec =
+    tie.close (tie.spec least-requires copy-requires sub-copy copy-requires-2 same-length returns)

@@ -1,0 +1,14 @@
+-- "section_length 4,093 is gathered, 4,094 given up" (document 01, "Examples"): 23 packets of one PID, pointer 0, whose section has this third byte after 0x80 and 0xBF.
+use mathlib.Core.List.{List, [], _∷_, _++_}
+use Prim.Native.Nat.{ℕ}
+use lib.ListN.{replicate}
+use Rattle.gather.specs.Rule.{Packet}
+use Rattle.gather.specs.Run.{starting}
+
+-- the section's first bytes: section_length is 0xF00 and the third byte
+abbrev pub section : ℕ → ℕ → List ℕ
+section third n = 0x80 ∷ 0xBF ∷ third ∷ replicate n 0x2A
+
+-- 183 bytes, 21 times 184, then 49 of the 4,096 bytes of a section and 135 bytes 0xFF
+abbrev pub longest : ℕ → List Packet
+longest third = starting 0 (section third 180) (replicate 21 (replicate 184 0x2A) ++ (replicate 49 0x2A ++ replicate 135 0xFF) ∷ [])

@@ -1,0 +1,146 @@
+-- From payload to sections: the rule alone, over an area's held bytes and last counter.
+use mathlib.Core.Bool.{Bool, true, false, cond, not, _&&_}
+use mathlib.Core.List.{List, [], _∷_, _++_}
+use Prim.Native.Nat.{ℕ, zero, suc, _+_, _%_}
+use lib.Dec.{eqb, leb}
+use lib.ListN.{length, getD, take, drop}
+use Rattle.gather.specs.declared.section.Kind.{Kind}
+use Rattle.gather.specs.declared.section.Kind.the-variants.{Nothing, Part, Overlong, Whole}
+use Rattle.gather.specs.Section.{classify, isEmpty}
+
+-- the area's last counter, or none yet
+pub data Last : Type 0 where
+  unseen : Last
+  seen : ℕ → Last
+
+-- what an area remembers: its held bytes and its last counter
+pub record State : Type 0 where
+  pub held : List ℕ
+  pub last : Last
+
+-- what a packet brings: its counter, its unit start, and its payload, empty where it has none
+pub record Packet : Type 0 where
+  pub counter : ℕ
+  pub start : Bool
+  pub payload : List ℕ
+
+-- what some bytes give: the sections that they finish, the bytes held after them, and how many sections were given up
+pub record Yield : Type 0 where
+  pub sections : List (List ℕ)
+  pub held : List ℕ
+  pub givenUp : ℕ
+
+-- what a packet does: the area's next state, the finished sections, jump, repeat, and how many sections were given up
+pub record Outcome : Type 0 where
+  pub next : State
+  pub sections : List (List ℕ)
+  pub jump : Bool
+  pub repeat : Bool
+  pub givenUp : ℕ
+
+-- bytes of which nothing comes
+abbrev pub nothing : Yield
+nothing = record { sections = []; held = []; givenUp = 0 }
+
+-- held bytes are one unfinished section; no bytes are none
+abbrev pub unfinished : List ℕ → ℕ
+unfinished held = cond (isEmpty held) 0 1
+
+infixr 20 _then_
+-- a section and what comes after it
+abbrev pub _then_ : List ℕ → Yield → Yield
+s then y = record { sections = s ∷ y .sections; held = y .held; givenUp = y .givenUp }
+
+-- the first section of some bytes, by their kind, and after a whole one what the rest gives: an unfinished one is held, a section_length above 4,093 gives that section up
+abbrev pub first : Kind → List ℕ → Yield → Yield
+first Nothing s rest = nothing
+first Part s rest = record { sections = []; held = s; givenUp = 0 }
+first Overlong s rest = record { sections = []; held = []; givenUp = 1 }
+first (Whole n) s rest = take n s then rest
+
+-- the bytes after a whole section
+abbrev pub after : Kind → List ℕ → List ℕ
+after Nothing s = []
+after Part s = []
+after Overlong s = []
+after (Whole n) s = drop n s
+
+-- "section follows section until the bytes end or a byte 0xFF stands where a table_id should"; the first argument bounds their number
+abbrev pub walkFor : ℕ → List ℕ → Yield
+walkFor zero s = nothing
+walkFor (suc k) s = let rest = walkFor k (after (classify s) s) in first (classify s) s rest
+
+-- the same of all bytes: there are no more sections than bytes
+unfoldable pub walk : List ℕ → Yield
+walk s = walkFor (length s) s
+
+-- "if bytes are held, bytes are added until the section is full; the rest is ignored. If none are held, all are ignored"
+unfoldable pub add : List ℕ → List ℕ → Yield
+add held new = cond (isEmpty held) nothing (first (classify (held ++ new)) (held ++ new) nothing)
+
+-- "if it is still not full, it is given up"
+abbrev pub closed : Yield → Yield
+closed y = record { sections = y .sections; held = []; givenUp = y .givenUp + unfinished (y .held) }
+
+-- what one part of the payload gives, and then the next
+abbrev pub together : Yield → Yield → Yield
+together a b = record { sections = a .sections ++ b .sections; held = b .held; givenUp = a .givenUp + b .givenUp }
+
+-- "the first byte is the pointer p"
+abbrev pub pointer : List ℕ → ℕ
+pointer payload = getD payload 0 0
+
+-- "the p bytes"
+abbrev pub front : List ℕ → List ℕ
+front payload = take (pointer payload) (drop 1 payload)
+
+-- the bytes "after them"
+abbrev pub back : List ℕ → List ℕ
+back payload = drop (1 + pointer payload) payload
+
+-- unit start 1: the p bytes go to the held section, and sections follow them
+unfoldable pub started : List ℕ → List ℕ → Yield
+started held payload = together (closed (add held (front payload))) (walk (back payload))
+
+-- what a payload gives after the held bytes, by unit start
+abbrev pub yield : List ℕ → Bool → List ℕ → Yield
+yield held start payload = cond start (started held payload) (add held payload)
+
+-- "the same counter as the area's last is a repeat"
+abbrev pub repeats : Last → ℕ → Bool
+repeats unseen counter = false
+repeats (seen l) counter = eqb counter l
+
+-- "a counter that is neither the same nor the next modulo 16 is a jump"; "the first counter of a fresh area is never a jump"
+abbrev pub jumps : Last → ℕ → Bool
+jumps unseen counter = false
+jumps (seen l) counter = not (eqb counter l) && not (eqb counter ((l + 1) % 16))
+
+-- "A packet without payload changes nothing and gets no mark"; a repeat "is dropped, reported as such"
+abbrev pub unchanged : State → Bool → Outcome
+unchanged s again = record { next = s; sections = []; jump = false; repeat = again; givenUp = 0 }
+
+-- after a jump "held bytes are given up"
+abbrev pub kept : Bool → List ℕ → List ℕ
+kept jump held = cond jump [] held
+
+-- how many sections a jump gives up: one where bytes were held
+abbrev pub lost : Bool → List ℕ → ℕ
+lost jump held = cond jump (unfinished held) 0
+
+-- "Every packet not dropped sets the last counter"
+abbrev pub taken : Bool → ℕ → ℕ → Yield → Outcome
+taken jump counter lost y =
+    record { next = record { held = y .held; last = seen counter }; sections = y .sections; jump = jump; repeat = false; givenUp = lost + y .givenUp }
+
+-- the rule
+unfoldable pub rule : State → Packet → Outcome
+rule s p =
+    cond (isEmpty (p .payload)) (unchanged s false)
+    (cond (repeats (s .last) (p .counter)) (unchanged s true)
+    (taken (jumps (s .last) (p .counter)) (p .counter) (lost (jumps (s .last) (p .counter)) (s .held))
+    (yield (kept (jumps (s .last) (p .counter)) (s .held)) (p .start) (p .payload))))
+
+-- refusal 11: a payload with unit start whose pointer p leaves no byte for a section, p + 1 not below the payload's size
+abbrev pub leavesNone : Bool → List ℕ → Bool
+leavesNone start payload = cond (isEmpty payload) false (start && leb (length payload) (pointer payload + 1))

@@ -1,0 +1,28 @@
+-- Packets of one PID, one after the other.
+use mathlib.Core.Bool.{true, false}
+use mathlib.Core.List.{List, [], _∷_, _++_}
+use Prim.Native.Nat.{ℕ, _+_, _%_}
+use Rattle.gather.specs.Rule.{State, Packet, rule}
+
+-- the state after some packets, the sections that they finished, in order, and how many were given up
+pub record Ran : Type 0 where
+  pub next : State
+  pub sections : List (List ℕ)
+  pub givenUp : ℕ
+
+-- packets taken one after the other
+abbrev pub run : State → List Packet → Ran
+run s [] = record { next = s; sections = []; givenUp = 0 }
+run s (p ∷ ps) =
+    let o = rule s p in
+    let r = run (o .next) ps in
+    record { next = r .next; sections = o .sections ++ r .sections; givenUp = o .givenUp + r .givenUp }
+
+-- packets without unit start, in step after a last counter: each with its payload
+abbrev pub following : ℕ → List (List ℕ) → List Packet
+following l [] = []
+following l (b ∷ bs) = record { counter = (l + 1) % 16; start = false; payload = b } ∷ following ((l + 1) % 16) bs
+
+-- a packet with unit start and pointer 0, and those after it
+abbrev pub starting : ℕ → List ℕ → List (List ℕ) → List Packet
+starting counter first rest = record { counter = counter; start = true; payload = 0 ∷ first } ∷ following counter rest

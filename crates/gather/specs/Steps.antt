@@ -1,0 +1,54 @@
+-- What the functions below the call promise: sizes that were measured, and what was copied by them.
+use mathlib.Core.Bool.{Bool, true, false, cond}
+use mathlib.Core.List.{List}
+use Prim.Native.Nat.{ℕ, _+_, _≤_}
+use lib.Dec.{eqb}
+use lib.ListN.{length}
+use Rattle.rules.specs.Write.{put}
+use Rattle.gather.specs.declared.Marks.{Marks}
+use Rattle.gather.specs.declared.Gathered.{Gathered}
+use Rattle.gather.specs.declared.measure.Sizes.{Sizes}
+use Rattle.gather.specs.Section.{join}
+use Rattle.gather.specs.Rule.{Yield}
+
+-- sizes, by their numbers
+abbrev pub sizesAs : ℕ → ℕ → ℕ → ℕ → Sizes
+sizesAs sections bytes held givenUp = record { sections = sections; bytes = bytes; held = held; «given_up» = givenUp }
+
+-- the sizes of what some bytes give
+abbrev pub sizesOf : Yield → Sizes
+sizesOf y = record { sections = length (y .sections); bytes = length (join (y .sections)); held = length (y .held); «given_up» = y .givenUp }
+
+-- sizes, and every byte of the store and of the output
+pub record Carried : Type 0 where
+  pub sizes : Sizes
+  pub store : List ℕ
+  pub out : List ℕ
+
+-- what is held stands from its area's first byte on, and "finished sections stand joined at the start of the output"; every other byte is as before
+abbrev pub carried : Yield → List ℕ → ℕ → List ℕ → Carried
+carried y store base out = record { sizes = sizesOf y; store = put store base (y .held); out = put out 0 (join (y .sections)) }
+
+-- sizes, and the store and the output as they are then
+abbrev pub carriedAs : Sizes → List ℕ → List ℕ → Carried
+carriedAs sizes store out = record { sizes = sizes; store = store; out = out }
+
+-- one unfinished section where bytes are held
+abbrev pub unfinishedOf : ℕ → ℕ
+unfinishedOf held = cond (eqb held 0) 0 1
+
+-- the sizes with which bytes can be gathered: the held bytes within their area, the area within the store, and room for all that can be finished
+pub record Room (held : ℕ) (payload store : List ℕ) (base : ℕ) (out : List ℕ) : Type 0 where
+  pub bound : held ≤ 4095
+  pub short : length payload ≤ 184
+  pub area : base + 4096 ≤ length store
+  pub output : 4278 ≤ length out
+
+-- the numbers of a packet that changes nothing
+abbrev pub unchangedOf : Marks → Bool → Gathered
+unchangedOf marks again = record { marks = marks; sections = 0; bytes = 0; jump = false; repeat = again; «given_up» = 0 }
+
+-- the numbers of a packet that is taken
+abbrev pub takenOf : Bool → ℕ → ℕ → Sizes → Gathered
+takenOf jump counter givenUp z =
+    record { marks = record { held = z .held; seen = true; counter = counter }; sections = z .sections; bytes = z .bytes; jump = jump; repeat = false; «given_up» = givenUp }

@@ -1,0 +1,195 @@
+// From payload to sections: the rule on an area of the store and on the output.
+mod measure;
+mod memory;
+mod section;
+
+use measure::Sizes;
+use measure::joined_kind;
+use measure::least;
+use memory::gathered;
+use memory::unfinished;
+use section::is_part;
+ghost use mathlib.Core.Path.{_≡_};
+ghost use mathlib.Core.Bool.{true, cond};
+ghost use Rattle.gather.specs.declared.Gathering.the-variants.{Done};
+ghost use Rattle.gather.specs.Rule.{leavesNone, repeats, jumps, rule};
+ghost use Rattle.gather.specs.Memory.{soundMarks, lastOf, stateOf, contradictsOf, gatherOf, handed, wrote};
+ghost use Rattle.gather.specs.Steps.{unfinishedOf, unchangedOf, takenOf, Room};
+
+// What the rule reads of an area besides the held bytes.
+pub struct Marks {
+    pub held: usize,
+    pub seen: bool,
+    pub counter: u8,
+}
+
+// What a packet did: the area's marks after it, the finished sections and their bytes, jump, repeat, and how many sections were given up.
+pub struct Gathered {
+    pub marks: Marks,
+    pub sections: usize,
+    pub bytes: usize,
+    pub jump: bool,
+    pub repeat: bool,
+    pub given_up: u8,
+}
+
+pub enum Gathering {
+    Done(Gathered),
+    Refused(u8),
+}
+
+// Whether marks are those of a sound state.
+pub fn sound(marks: Marks) -> bool
+    ensures { λ r. ⌜ r ≡ soundMarks marks ⌝ }
+{
+    if marks.seen {
+        return (marks.held <= 4095) & (marks.counter <= 15);
+    }
+    (marks.held == 0) & (marks.counter == 0)
+}
+
+// Refusal 9: whether the held bytes are no part of a section; bytes past the store's end are none.
+pub fn contradicts(held: usize, store: &[u8], base: usize) -> bool
+    ensures { λ r. ⌜ r ≡ contradictsOf held (now (store .entry)) base ⌝ }
+{
+    let at = least(base, store.len());
+    let n = least(held, store.len() - at);
+    let kind = joined_kind(n, store, at, store, 0, 0);
+    (n != 0) & !is_part(kind)
+}
+
+// Refusal 11: whether the pointer leaves no byte for a section.
+pub fn pointless(start: bool, payload: &[u8]) -> bool
+    ensures { λ r. ⌜ r ≡ leavesNone start (now (payload .entry)) ⌝ }
+{
+    if payload.len() == 0 {
+        return false;
+    }
+    start & (payload.len() <= payload[0] as usize + 1)
+}
+
+fn repeats(marks: Marks, counter: u8) -> bool
+    ensures { λ r. ⌜ r ≡ repeats (lastOf (marks .seen) (marks .counter)) counter ⌝ }
+{
+    marks.seen & (counter == marks.counter)
+}
+
+fn jumps(marks: Marks, counter: u8) -> bool
+    requires { ⌜ soundMarks marks ≡ true ⌝ }
+    ensures { λ r. ⌜ r ≡ jumps (lastOf (marks .seen) (marks .counter)) counter ⌝ }
+{
+    marks.seen & ((counter != marks.counter) & (counter != (marks.counter + 1) % 16))
+}
+
+// After a jump nothing is held.
+fn kept(jump: bool, held: usize) -> usize
+    ensures { λ r. ⌜ r ≡ cond jump 0 held ⌝ }
+{
+    if jump {
+        return 0;
+    }
+    held
+}
+
+// A jump gives up what was held.
+fn lost(jump: bool, held: usize) -> u8
+    ensures { λ r. ⌜ r ≡ cond jump (unfinishedOf held) 0 ⌝ }
+{
+    if jump {
+        return unfinished(held);
+    }
+    0
+}
+
+// A packet without payload or a repeat.
+fn unchanged(marks: Marks, repeat: bool) -> Gathered
+    ensures { λ r. ⌜ r ≡ unchangedOf marks repeat ⌝ }
+{
+    Gathered {
+        marks,
+        sections: 0,
+        bytes: 0,
+        jump: false,
+        repeat,
+        given_up: 0,
+    }
+}
+
+// A packet that is not dropped sets the last counter.
+fn taken(jump: bool, counter: u8, given_up: u8, sizes: Sizes) -> Gathered
+    ensures { λ r. ⌜ r ≡ takenOf jump counter «given_up» sizes ⌝ }
+{
+    Gathered {
+        marks: Marks {
+            held: sizes.held,
+            seen: true,
+            counter,
+        },
+        sections: sizes.sections,
+        bytes: sizes.bytes,
+        jump,
+        repeat: false,
+        given_up,
+    }
+}
+
+// The rule on memory, where the sizes serve.
+fn accepted(
+    marks: Marks,
+    counter: u8,
+    start: bool,
+    payload: &[u8],
+    store: &mut [u8],
+    base: usize,
+    out: &mut [u8],
+) -> Gathered
+    requires { ⌜ Room (marks .held) (now payload) (now store) base (now out) ⌝ }
+    requires { ⌜ soundMarks marks ≡ true ⌝ }
+    ensures { λ r. ⌜ wrote (Done r) (now (store .exit)) (now (out .exit))
+        ≡ handed (rule (stateOf marks (now (store .entry)) base) (record { counter = counter; start = start; payload = now (payload .entry) }))
+        (now (store .entry)) base (now (out .entry)) ⌝ }
+{
+    let size = payload.len();
+    if size == 0 {
+        return unchanged(marks, false);
+    }
+    if repeats(marks, counter) {
+        return unchanged(marks, true);
+    }
+    let jump = jumps(marks, counter);
+    let lost = lost(jump, marks.held);
+    let sizes = gathered(start, kept(jump, marks.held), payload, store, base, out);
+    let given_up = lost + sizes.given_up;
+    taken(jump, counter, given_up, sizes)
+}
+
+// A packet's counter, unit start and payload, gathered into the area at `base` of the store and to the output.
+pub fn gather(
+    marks: Marks,
+    counter: u8,
+    start: bool,
+    payload: &[u8],
+    store: &mut [u8],
+    base: usize,
+    out: &mut [u8],
+) -> Gathering
+    ensures { λ r. ⌜ wrote r (now (store .exit)) (now (out .exit))
+        ≡ gatherOf marks counter start (now (payload .entry)) (now (store .entry)) base (now (out .entry)) ⌝ }
+{
+    if store.len() < 4096 {
+        return Gathering::Refused(3);
+    }
+    if store.len() - 4096 < base {
+        return Gathering::Refused(3);
+    }
+    if !sound(marks) {
+        return Gathering::Refused(3);
+    }
+    if 184 < payload.len() {
+        return Gathering::Refused(3);
+    }
+    if out.len() < 4278 {
+        return Gathering::Refused(3);
+    }
+    Gathering::Done(accepted(marks, counter, start, payload, store, base, out))
+}

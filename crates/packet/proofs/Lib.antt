@@ -1,0 +1,11 @@
+pub mod Clock
+pub mod Signed
+pub mod Flagged
+pub mod Field
+pub mod Header
+pub mod Exact
+pub mod Accepted
+pub mod Lent
+pub mod Stars
+pub mod Examples
+pub mod Outcomes

@@ -1,0 +1,53 @@
+-- Two headers of published recordings and one without optional header, by computation.
+-- Assumes nothing.
+use mathlib.Core.Path.{_≡_, refl}
+use mathlib.Core.Bool.{false}
+use mathlib.Core.List.{List, [], _∷_}
+use Prim.Native.Nat.{ℕ}
+use Rattle.rules.specs.Answer.{given}
+use Rattle.pes.specs.Stamps.{pts, both}
+use Rattle.pes.specs.Header.{full, bare, readHeader}
+
+-- audio with a PTS and two bytes of stuffing: sharedmime_settopbox.ts, packet 273
+abbrev pub audio : List ℕ
+audio = 0x00 ∷ 0x00 ∷ 0x01 ∷ 0xC0 ∷ 0x16 ∷ 0xFA ∷ 0x8B ∷ 0x80 ∷ 0x07 ∷ 0x2B ∷ 0xB0 ∷ 0x2D ∷ 0x97 ∷ 0x37 ∷ 0xFF ∷ 0xFF ∷ []
+
+pub audio-read : readHeader audio ≡ given (full (record {
+  streamId = 0xC0;
+  packetLength = 5882;
+  headerLength = 7;
+  stamps = pts 6107646875;
+  escr = false;
+  rate = false;
+  trick = false;
+  copy = false;
+  crc = false;
+  extension = false;
+}))
+audio-read = refl
+
+-- video of no stated length with a PTS and a DTS: kfilemetadata_test.ts, packet 3
+abbrev pub video : List ℕ
+video =
+    0x00 ∷ 0x00 ∷ 0x01 ∷ 0xE0 ∷ 0x00 ∷ 0x00 ∷ 0x80 ∷ 0xC0 ∷ 0x0A
+    ∷ 0x31 ∷ 0x00 ∷ 0x07 ∷ 0xF5 ∷ 0xB5
+    ∷ 0x11 ∷ 0x00 ∷ 0x07 ∷ 0xD8 ∷ 0x61
+    ∷ []
+
+pub video-read : readHeader video ≡ given (full (record {
+  streamId = 0xE0;
+  packetLength = 0;
+  headerLength = 10;
+  stamps = both 129754 126000;
+  escr = false;
+  rate = false;
+  trick = false;
+  copy = false;
+  crc = false;
+  extension = false;
+}))
+video-read = refl
+
+-- a padding stream
+pub padding-read : readHeader (0x00 ∷ 0x00 ∷ 0x01 ∷ 0xBE ∷ 0x01 ∷ 0x02 ∷ 0xFF ∷ []) ≡ given (bare 0xBE 258)
+padding-read = refl

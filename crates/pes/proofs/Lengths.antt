@@ -1,0 +1,33 @@
+-- An optional header whose rows before the stamps do not apply reads as its stamps read.
+-- Assumes nothing.
+use mathlib.Core.Path.{_≡_, refl}
+use mathlib.Core.Bool.{Bool, true, false, _||_}
+use mathlib.Core.List.{List}
+use Prim.Native.Nat.{ℕ, _+_, _≤_}
+use borrow.Author.Tests.{le-ltb, eq-eqb, ne-eqb, ltb-false}
+use lib.Dec.{ltb}
+use lib.ListN.{length, getD}
+use Rattle.rules.specs.Number.{bits}
+use Rattle.pes.specs.Stamps.{Times, stampRefusals, stampsOf}
+use Rattle.pes.specs.Steps.{readStamps, readOptional}
+use Rattle.pes.specs.Header.{Contents, full, fullOf, packetLengthOf, headerLengthOf, flagsOf, codeOf, fieldsSize, isOver}
+use Rattle.rules.proofs.Judged.{mapped, judge-mapped}
+
+-- a header with these stamps
+abbrev pub withStamps : List ℕ → Times → Contents
+withStamps s times = full (fullOf s times)
+
+pub after-lengths : (s : List ℕ) → 9 ≤ length s → bits (getD s 6 0) 6 2 ≡ 2 → (codeOf (flagsOf s) ≡ 1 → ⊥)
+    → isOver (packetLengthOf s) (fieldsSize (flagsOf s)) (headerLengthOf s) ≡ false → 9 + headerLengthOf s ≤ length s
+    → readOptional s ≡ mapped (withStamps s) (readStamps s (codeOf (flagsOf s)))
+after-lengths s size mark code fit whole =
+    rw (le-ltb (length s) 9 size, eq-eqb (bits (getD s 6 0) 6 2) 2 mark, ne-eqb (codeOf (flagsOf s)) 1 code, fit, le-ltb (length s) (9 + headerLengthOf s) whole)
+    (judge-mapped (withStamps s) (stampRefusals s (codeOf (flagsOf s))) (stampsOf s (codeOf (flagsOf s))))
+
+or-false : (a b : Bool) → (a || b) ≡ false → a ≡ false
+or-false true b e = e
+or-false false b e = refl
+
+-- fields that are not over the header length are at most as long
+pub fields-fit : (packet fields header : ℕ) → isOver packet fields header ≡ false → fields ≤ header
+fields-fit packet fields header e = ltb-false header fields (or-false (ltb header fields) _ e)

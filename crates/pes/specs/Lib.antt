@@ -1,0 +1,5 @@
+pub mod Stream
+pub mod Stamps
+pub mod Header
+pub mod Steps
+pub mod Accepted

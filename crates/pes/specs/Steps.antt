@@ -1,0 +1,22 @@
+-- What the private functions promise each other, in terms of the definitions.
+use mathlib.Core.List.{List}
+use Prim.Native.Nat.{ℕ}
+use Rattle.rules.specs.Answer.{Answer, refused, given}
+use Rattle.rules.specs.Refusal.{judge}
+use Rattle.pes.specs.Stamps.{Times, toldStamps, stampRefusals, stampsOf}
+use Rattle.pes.specs.Header.{Contents, optionalRefusals, optionalOf}
+use Rattle.pes.specs.declared.stamps.Stamped.{Stamped}
+use Rattle.pes.specs.declared.stamps.Stamped.the-variants as stamped
+
+-- what the answer for the stamps says
+abbrev pub toldStamped : Stamped → Answer Times
+toldStamped (stamped.Value t) = given (toldStamps t)
+toldStamped (stamped.Refused n) = refused n
+
+-- the stamps that the flags announce, judged
+abbrev pub readStamps : List ℕ → ℕ → Answer Times
+readStamps s code = judge refused (stampRefusals s code) (given (stampsOf s code))
+
+-- the optional header, judged
+abbrev pub readOptional : List ℕ → Answer Contents
+readOptional s = judge refused (optionalRefusals s) (given (optionalOf s))

@@ -1,0 +1,137 @@
+// PES headers: what stands before the data of a PES packet.
+ghost use mathlib.Core.Path.{_≡_};
+ghost use mathlib.Core.List.{[], _∷_};
+ghost use Prim.Native.Nat.{_≤_};
+ghost use lib.ListN.{getD};
+ghost use Rattle.rules.specs.Number.{numberOf, numberAt};
+ghost use Rattle.pes.specs.Header.{told, fieldsSize, isOver, readHeader};
+ghost use Rattle.pes.specs.Steps.{readOptional};
+use crate::stamps::Stamped;
+use crate::stamps::Stamps;
+
+pub mod stamps;
+mod stream;
+
+// What the header of an id with an optional header says: both lengths, the stamps, and which other fields are flagged.
+pub struct Header {
+    pub stream_id: u8,
+    pub packet_length: u16,
+    pub header_length: u8,
+    pub stamps: Stamps,
+    pub escr: bool,
+    pub rate: bool,
+    pub trick: bool,
+    pub copy: bool,
+    pub crc: bool,
+    pub extension: bool,
+}
+
+// An id without optional header has nothing but its packet length.
+pub enum Reading {
+    Value(Header),
+    Bare { stream_id: u8, packet_length: u16 },
+    Refused(u8),
+}
+
+// The 24 bits of three bytes.
+fn start_of(a: u8, b: u8, c: u8) -> u32
+    ensures { λ r. ⌜ r ≡ numberOf (a ∷ b ∷ c ∷ []) ⌝ }
+{
+    ((a as u32) * 256 + (b as u32)) * 256 + (c as u32)
+}
+
+// The 16 bits of two bytes.
+fn length_of(a: u8, b: u8) -> u16
+    ensures { λ r. ⌜ r ≡ numberOf (a ∷ b ∷ []) ⌝ }
+{
+    (a as u16) * 256 + (b as u16)
+}
+
+// How many bytes the flagged fields have at least.
+fn fields_size(flags: u8) -> u16
+    ensures { λ r. ⌜ (r ≡ fieldsSize flags) × (r ≤ 24) ⌝ }
+{
+    stamps::size_of(flags / 64 % 4)
+        + 6 * ((flags / 32 % 2) as u16)
+        + 3 * ((flags / 16 % 2) as u16)
+        + ((flags / 8 % 2) as u16)
+        + ((flags / 4 % 2) as u16)
+        + 2 * ((flags / 2 % 2) as u16)
+        + ((flags % 2) as u16)
+}
+
+// Whether the header's fields do not fit its length, or the header not the packet's.
+fn is_over(size: u16, fields: u16, header: u8) -> bool
+    ensures { λ r. ⌜ r ≡ isOver size fields header ⌝ }
+{
+    ((header as u16) < fields) | ((size != 0) & (size < 3 + (header as u16)))
+}
+
+// The optional header, or the first refusal that applies to it.
+fn optional(bytes: &[u8], id: u8, size: u16) -> Reading
+    requires { ⌜ (getD (now bytes) 3 0 ≡ id) × (numberAt (now bytes) 4 2 ≡ size) ⌝ }
+    ensures { λ r. ⌜ told r ≡ readOptional (now (bytes .entry)) ⌝ }
+{
+    if bytes.len() < 9 {
+        return Reading::Refused(30);
+    }
+    if bytes[6] / 64 % 4 != 2 {
+        return Reading::Refused(33);
+    }
+    let flags = bytes[7];
+    let code = flags / 64 % 4;
+    if code == 1 {
+        return Reading::Refused(34);
+    }
+    let header = bytes[8];
+    if is_over(size, fields_size(flags), header) {
+        return Reading::Refused(35);
+    }
+    if bytes.len() < 9 + (header as usize) {
+        return Reading::Refused(30);
+    }
+    let stamped = stamps::read(bytes, code);
+    match stamped {
+        Stamped::Refused(n) => Reading::Refused(n),
+        Stamped::Value(stamps) => Reading::Value(Header {
+            stream_id: id,
+            packet_length: size,
+            header_length: header,
+            stamps,
+            escr: flags / 32 % 2 == 1,
+            rate: flags / 16 % 2 == 1,
+            trick: flags / 8 % 2 == 1,
+            copy: flags / 4 % 2 == 1,
+            crc: flags / 2 % 2 == 1,
+            extension: flags % 2 == 1,
+        }),
+    }
+}
+
+// What a PES header says, or the first refusal that applies to it.
+pub fn read(bytes: &[u8]) -> Reading
+    ensures { λ r. ⌜ told r ≡ readHeader (now (bytes .entry)) ⌝ }
+{
+    if bytes.len() < 6 {
+        return Reading::Refused(30);
+    }
+    let start = start_of(bytes[0], bytes[1], bytes[2]);
+    if start != 1 {
+        return Reading::Refused(31);
+    }
+    let id = bytes[3];
+    if id < 0xBC {
+        return Reading::Refused(32);
+    }
+    let size = length_of(bytes[4], bytes[5]);
+    if stream::is_endless(id, size) {
+        return Reading::Refused(37);
+    }
+    if stream::is_bare(id) {
+        return Reading::Bare {
+            stream_id: id,
+            packet_length: size,
+        };
+    }
+    optional(bytes, id, size)
+}

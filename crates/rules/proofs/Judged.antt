@@ -1,0 +1,57 @@
+-- A table whose answer is made of the answers of one table or two: by cases of the rows.
+-- Assumes nothing.
+use mathlib.Core.Path.{_≡_, refl, sym, _∙_}
+use mathlib.Core.Bool.{Bool, true, false, cond}
+use mathlib.Core.List.{List, [], _∷_, _++_}
+use mathlib.Core.Logic.{⊎-elim}
+use Prim.Native.Nat.{ℕ}
+use Rattle.rules.specs.Answer.{Answer, refused, given}
+use Rattle.rules.specs.Refusal.{Row, judge, Silent, First}
+use Rattle.rules.proofs.Answer.{given-apart, given-same, refused-same}
+use Rattle.rules.proofs.Refusal
+use Rattle.rules.proofs.Refusal.{accepted, verdict, only}
+
+module _ {ℓ} {A B : Type ℓ} (f : A → B) where
+  -- the answer made into another; a refusal stays
+  abbrev pub mapped : Answer A → Answer B
+  mapped (refused n) = refused n
+  mapped (given x) = given (f x)
+
+  pub judge-mapped : (rows : List Row) (x : A) → judge refused rows (given (f x)) ≡ mapped (judge refused rows (given x))
+  judge-mapped [] x = refl
+  judge-mapped (row ∷ rows) x = go (row .applies) (judge-mapped rows x)
+    where
+      go : (b : Bool) → judge refused rows (given (f x)) ≡ mapped (judge refused rows (given x))
+          → cond b (refused (row .number)) (judge refused rows (given (f x))) ≡ mapped (cond b (refused (row .number)) (judge refused rows (given x)))
+      go true e = refl
+      go false e = e
+
+-- two answers made into one; the first refusal stays
+module _ {ℓ} {A B C : Type ℓ} (f : A → B → C) where
+  abbrev pub joined : Answer A → Answer B → Answer C
+  joined (refused n) b = refused n
+  joined (given x) b = mapped (f x) b
+
+  pub judge-joined : (rows later : List Row) (x : A) (y : B)
+      → joined (judge refused rows (given x)) (judge refused later (given y)) ≡ judge refused (rows ++ later) (given (f x y))
+  judge-joined [] later x y = sym (judge-mapped (f x) later y)
+  judge-joined (row ∷ rows) later x y = go (row .applies) (judge-joined rows later x y)
+    where
+      go : (b : Bool) → joined (judge refused rows (given x)) (judge refused later (given y)) ≡ judge refused (rows ++ later) (given (f x y))
+          → joined (cond b (refused (row .number)) (judge refused rows (given x))) (judge refused later (given y))
+          ≡ cond b (refused (row .number)) (judge refused (rows ++ later) (given (f x y)))
+      go true e = refl
+      go false e = e
+
+-- ---- back from what was given
+module _ {ℓ} {A : Type ℓ} (rows : List Row) (x : A) where
+  -- where an answer was given no row applies, and it is the table's own
+  pub given-by : (y : A) → judge refused rows (given x) ≡ given y → Silent rows × (y ≡ x)
+  given-by y e =
+      ⊎-elim (λ s. (s, given-same (sym e ∙ accepted refused (given x) rows s)))
+      (λ f. absurd (given-apart (sym e ∙ Refusal.refused refused (given x) (f .0) rows (f .1))))
+      (verdict rows)
+
+  -- where n was given n is the first that applies
+  pub refused-by : (n : ℕ) → judge refused rows (given x) ≡ refused n → First n rows
+  refused-by n = only refused (given x) rows n (λ m e. given-apart (sym e)) (λ m e. refused-same e)

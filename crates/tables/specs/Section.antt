@@ -1,0 +1,54 @@
+-- The fields of a section (document 01, Tables; H.222.0 2.4.4), each by its place.
+use mathlib.Core.List.{List, [], _∷_}
+use Prim.Native.Nat.{ℕ, _+_, _-_}
+use lib.Dec.{eqb}
+use lib.ListN.{getD, length}
+use lib.Seq.{slice}
+use Rattle.rules.specs.Number.{numberOf, bits}
+use Rattle.tables.specs.declared.section.Head.{Head}
+
+-- The byte at a place
+abbrev pub byteAt : List ℕ → ℕ → ℕ
+byteAt s i = getD s i 0
+
+-- Two bytes as a number
+abbrev pub wordOf : ℕ → ℕ → ℕ
+wordOf high low = numberOf (high ∷ low ∷ [])
+
+-- The two bytes from a place on, as a number
+abbrev pub wordAt : List ℕ → ℕ → ℕ
+wordAt s i = wordOf (byteAt s i) (byteAt s (i + 1))
+
+-- The last 12 bits of bytes 1 and 2
+abbrev pub sectionLength : List ℕ → ℕ
+sectionLength s = bits (wordAt s 1) 0 12
+
+-- Byte 0
+abbrev pub tableId : List ℕ → ℕ
+tableId s = byteAt s 0
+
+-- The first bit of byte 1
+abbrev pub syntaxIndicator : List ℕ → ℕ
+syntaxIndicator s = bits (byteAt s 1) 7 1
+
+-- The bit after section_syntax_indicator
+abbrev pub bitAfter : List ℕ → ℕ
+bitAfter s = bits (byteAt s 1) 6 1
+
+-- "Bytes 3 to 7 of a section: id (16 bits), reserved, version (5), current/next, section number, last number"
+abbrev pub headOf : List ℕ → Head
+headOf s = record {
+  id = wordAt s 3;
+  version = bits (byteAt s 5) 1 5;
+  current = eqb (bits (byteAt s 5) 0 1) 1;
+  number = byteAt s 6;
+  last = byteAt s 7;
+}
+
+-- The bytes of a section from a place up to its CRC_32, which is its last four bytes
+abbrev pub before : ℕ → List ℕ → List ℕ
+before from s = slice from (length s - 4) s
+
+-- The 13 bits of a PID at the end of two bytes
+abbrev pub pidOf : ℕ → ℕ
+pidOf word = bits word 0 13

@@ -1,0 +1,78 @@
+// The program association table.
+use crate::section::Head;
+use crate::section::Judged;
+use crate::section::judge_shared;
+use crate::section::read_head;
+use crate::section::word;
+ghost use mathlib.Core.Path.{_≡_};
+ghost use Rattle.rules.specs.Refusal.{judge};
+ghost use Rattle.tables.specs.Pat.{patRefusals, patHeaderOf, patEntryOf};
+
+// An entry: a program and its PID.
+pub struct Program {
+    pub number: u16,
+    pub pid: u16,
+}
+
+pub enum PatHeader {
+    Header { head: Head, entries: usize },
+    Refused(u8),
+}
+
+pub enum PatEntry {
+    Entry(Program),
+    Refused(u8),
+}
+
+// Judges a section asked for as a PAT.
+fn judge_pat(s: &[u8]) -> Judged
+    ensures { λ r. ⌜ r ≡ judge Judged.Refused (patRefusals (now (s .entry))) Judged.Fine ⌝ }
+{
+    let shared = judge_shared(s, 0, 9);
+    match shared {
+        Judged::Refused(n) => Judged::Refused(n),
+        Judged::Fine => {
+            if s[7] < s[6] {
+                return Judged::Refused(24);
+            }
+            if (s.len() - 12) % 4 != 0 {
+                return Judged::Refused(26);
+            }
+            Judged::Fine
+        }
+    }
+}
+
+// The header of a section asked for as a PAT.
+pub fn pat_header(section: &[u8]) -> PatHeader
+    ensures { λ r. ⌜ r ≡ patHeaderOf (now (section .entry)) ⌝ }
+{
+    let verdict = judge_pat(section);
+    match verdict {
+        Judged::Refused(n) => PatHeader::Refused(n),
+        Judged::Fine => PatHeader::Header {
+            head: read_head(section),
+            entries: (section.len() - 12) / 4,
+        },
+    }
+}
+
+// The entry with an index of a section asked for as a PAT.
+pub fn pat_entry(section: &[u8], index: u16) -> PatEntry
+    ensures { λ r. ⌜ r ≡ patEntryOf (now (section .entry)) index ⌝ }
+{
+    let verdict = judge_pat(section);
+    match verdict {
+        Judged::Refused(n) => PatEntry::Refused(n),
+        Judged::Fine => {
+            let i = index as usize;
+            if (section.len() - 12) / 4 <= i {
+                return PatEntry::Refused(27);
+            }
+            let at = 8 + 4 * i;
+            let number = word(section[at], section[at + 1]);
+            let pid = word(section[at + 2], section[at + 3]) % 8192;
+            PatEntry::Entry(Program { number, pid })
+        }
+    }
+}
