@@ -1,0 +1,169 @@
+-- Every call keeps the state sound, and a packet call changes at most its own PID's area: a refusal changes nothing, and each accepted call touches one area.
+-- Assumes nothing.
+use mathlib.Core.Path.{_≡_, refl, sym, _∙_, ap}
+use mathlib.Core.Bool.{Bool, true, false, cond, _&&_}
+use mathlib.Core.List.{List}
+use mathlib.Core.Logic.{_⊎_, inl, inr}
+use Prim.Native.Nat.{ℕ, _+_, _*_, _≤_, _<_}
+use native.Mathlib.Omega.{arith}
+use borrow.Author.Tests.{eqb-true}
+use lib.Dec.{leb, eqb, ltb}
+use lib.ListN.{length, getD, set, length-set}
+use lib.Seq.{getD-set-other}
+use Rattle.rules.specs.Walk.{all, count}
+use Rattle.rules.specs.Write.{put}
+use Rattle.rules.proofs.Test.{both-true, true-both}
+use Rattle.rules.proofs.Walk.{all-at, all-of, all-set, apart-set, find-passes}
+use Rattle.rules.proofs.Write.{length-put}
+use Rattle.gather.specs.Rule.{Outcome}
+use Rattle.gather.specs.Memory.{soundMarks, bytesAt, stateOf}
+use Rattle.gather.proofs.Laws.{rule-keeps}
+use Rattle.gather.proofs.Stored.{house, stays-sound}
+use Rattle.driver.specs.State.{fresh, isUsed, isOpen, isFree, standsOn, hasPid, areaOf, baseOf, freePlaceOf, placeOf, freeArea, freeFilter}
+use Rattle.driver.specs.Sound.{sound, soundArea, soundFilter, isZeroArea, samePid}
+use Rattle.driver.specs.Open.{areaFor, opened, openOf}
+use Rattle.driver.specs.Close.{closed, closeOf}
+use Rattle.rules.specs.Answer.{Answer, refused, given}
+use Rattle.driver.specs.Packet.{After, Said, unwanted, still, contents, pidOf, payloadOf, outcome, marked, taken, packetOf}
+use Rattle.driver.specs.declared.Area.{Area}
+use Rattle.driver.specs.declared.Filter.{Filter}
+use Rattle.driver.specs.declared.State.{State}
+use Rattle.driver.proofs.Tally.{counted-all}
+use Rattle.driver.proofs.Clauses.{Clauses, sound-tells, sound-says, users-are, used-sound}
+use Rattle.driver.proofs.KeepsOpen as ko
+use Rattle.driver.proofs.KeepsClose.{closed-clauses}
+use Rattle.driver.proofs.Frame.{unseen, part-apart}
+use Rattle.driver.proofs.Ways.{Opens, open-ind, Closes, close-ind, Handles, packet-ind}
+
+pub fresh-sound : sound fresh ≡ true
+unfolding sound
+fresh-sound = refl
+
+-- ---- open and close
+pub opens-clauses : (s : State) (pid : ℕ) → Opens s pid → Clauses (opened s pid)
+opens-clauses s pid o =
+    ko.opened-clauses s pid (areaFor pid (s .areas)) (freePlaceOf (s .filters)) (sound-tells s (o .fine)) (o .low) (o .more) (ko.taken pid (s .areas)) (o .area) (o .place)
+    (find-passes isFree (s .filters) freeFilter (o .place))
+
+pub open-sound : (s : State) (pid : ℕ) → sound s ≡ true → sound (openOf s pid .state) ≡ true
+open-sound s pid e = open-ind s pid (λ o. sound (o .state) ≡ true) (λ n a b. e) (λ o. sound-says (opened s pid) (opens-clauses s pid o))
+
+-- an open filter is found at the place of its number
+pub found : (s : State) (number : ℕ) → placeOf number (s .filters) < length (s .filters)
+    → (isOpen (getD (s .filters) (placeOf number (s .filters)) freeFilter) ≡ true) × (getD (s .filters) (placeOf number (s .filters)) freeFilter .number ≡ number)
+found s number h =
+    let f = getD (s .filters) (placeOf number (s .filters)) freeFilter in
+    let p = both-true (isOpen f) (eqb (f .number) number) (find-passes (λ f. isOpen f && eqb (f .number) number) (s .filters) freeFilter h) in
+    (p .0, eqb-true (f .number) number (p .1))
+
+pub closes-clauses : (s : State) (number : ℕ) → Closes s number → Clauses (closed s (placeOf number (s .filters)))
+closes-clauses s number c = closed-clauses s (placeOf number (s .filters)) (sound-tells s (c .fine)) (c .place) (found s number (c .place) .0)
+
+pub close-sound : (s : State) (number : ℕ) → sound s ≡ true → sound (closeOf s number .state) ≡ true
+close-sound s number e =
+    close-ind s number (λ o. sound (o .state) ≡ true) (λ n a b. e) (λ c. sound-says (closed s (placeOf number (s .filters))) (closes-clauses s number c))
+
+-- ---- packet
+module _ (s : State) (p store out : List ℕ) (eight : length (s .areas) ≡ 8) (h : Handles s p store out) where
+  abbrev own : ℕ
+  own = areaOf (pidOf p) (s .areas)
+
+  abbrev area : Area
+  area = getD (s .areas) own freeArea
+
+  abbrev result : Outcome
+  result = outcome s own p store
+
+  clauses : Clauses s
+  clauses = sound-tells s (h .fine)
+
+  -- the area is used and has the packet's PID
+  pub own-used : (isUsed area ≡ true) × (area .pid .0 ≡ pidOf p)
+  own-used =
+      let q = both-true (isUsed area) (eqb (area .pid .0) (pidOf p)) (find-passes (hasPid (pidOf p)) (s .areas) freeArea (h .area)) in
+      (q .0, eqb-true (area .pid .0) (pidOf p) (q .1))
+
+  own-sound : (leb (area .pid .0) 0x1FFE ≡ true) × (soundMarks (area .marks) ≡ true)
+  own-sound = used-sound area (all-at soundArea (s .areas) freeArea (clauses .areas) own (h .area)) (own-used .0)
+
+  -- what is held after the call fits the area
+  pub held-fits : length (result .next .held) ≤ 4095
+  held-fits = rule-keeps (stateOf (area .marks) store (baseOf own)) _ (h .agrees) .held
+
+  pub held-inside : baseOf own + length (result .next .held) ≤ length store
+  held-inside = let f = held-fits in let w = h .whole in let a = h .area in omega arith
+
+  -- users and PIDs are as before
+  pub same-used : (j : ℕ) → isUsed (getD (set (s .areas) own (marked area result)) j freeArea) ≡ isUsed (getD (s .areas) j freeArea)
+  same-used = unseen isUsed (s .areas) own (marked area result) freeArea (h .area) refl
+
+  own-marks-sound : soundArea (marked area result) ≡ true
+  own-marks-sound =
+      ap (λ (b : Bool). cond b (leb (area .pid .0) 0x1FFE && soundMarks (marked area result .marks)) (isZeroArea (marked area result))) (own-used .0)
+      ∙ true-both _ _ (own-sound .0)
+      (stays-sound (area .marks) (contents p .counter) (contents p .unitStart) (payloadOf p) store (baseOf own) out
+      (house (area .marks) (payloadOf p) store own out (own-sound .1) (h .whole) (rw eight at (h .area)) (h .short) (h .room)) (own-sound .1) (h .agrees) (h .counter))
+
+  pub handles-clauses : Clauses (taken s own result store out .state)
+  handles-clauses =
+      record {
+        from = clauses .from;
+        to = clauses .to;
+        areas = all-set soundArea (s .areas) own (marked area result) freeArea (clauses .areas) own-marks-sound;
+        pids =
+            apart-set samePid (s .areas) own (marked area result) freeArea (clauses .pids)
+            (λ j b n.
+            ko.lonely (marked area result) (getD (s .areas) j freeArea)
+            (ap (λ (q : ℕ). hasPid q (getD (s .areas) j freeArea)) (own-used .1) ∙ ko.others (pidOf p) (s .areas) (ko.own (h .area)) (clauses .pids) j b n));
+        filters =
+            all-of (soundFilter (s .next) (set (s .areas) own (marked area result))) (s .filters) freeFilter
+            (λ j b.
+            let f = getD (s .filters) j freeFilter in
+            ap (λ (u : Bool). cond (isOpen f) (ltb (f .number) (s .next) && u) (eqb (f .area) 0)) (same-used (f .area))
+            ∙ all-at (soundFilter (s .next) (s .areas)) (s .filters) freeFilter (clauses .filters) j b);
+        numbers = clauses .numbers;
+        users =
+            counted-all (s .filters) (set (s .areas) own (marked area result))
+            (λ j b. unseen (λ (a : Area). a .users) (s .areas) own (marked area result) freeArea (h .area) refl j ∙ users-are s clauses j (rw length-set at b));
+      }
+
+pub packet-sound : (s : State) (p store out : List ℕ) → length (s .areas) ≡ 8 → sound s ≡ true → sound (packetOf s p store out .state) ≡ true
+packet-sound s p store out eight e =
+    packet-ind s p store out (λ o. sound (o .state) ≡ true) (λ n a b. e) (λ l. e)
+    (λ h. sound-says (taken s (areaOf (pidOf p) (s .areas)) (outcome s (areaOf (pidOf p) (s .areas)) p store) store out .state) (handles-clauses s p store out eight h))
+
+-- nothing but area i of the state and of the store has changed
+pub record OnlyArea (i : ℕ) (s : State) (store : List ℕ) (o : After) : Type 0 where
+  pub filters : o .state .filters ≡ s .filters
+  pub next : o .state .next ≡ s .next
+  pub areas : (j : ℕ) → (j ≡ i → ⊥) → getD (o .state .areas) j freeArea ≡ getD (s .areas) j freeArea
+  pub size : length (o .store) ≡ length store
+  pub store′ : (from n : ℕ) → (from + n ≤ baseOf i) ⊎ (baseOf i + 4096 ≤ from) → bytesAt n (o .store) from ≡ bytesAt n store from
+
+-- "No packet of another PID .. changes it": a packet call changes at most its own PID's area, in the state and in the store
+pub packet-own-area : (s : State) (p store out : List ℕ) → length (s .areas) ≡ 8 → OnlyArea (areaOf (pidOf p) (s .areas)) s store (packetOf s p store out)
+packet-own-area s p store out eight = packet-ind s p store out (OnlyArea own s store) (λ n a b. same (refused n)) (λ l. same (given unwanted)) on
+  where
+    own : ℕ
+    own = areaOf (pidOf p) (s .areas)
+
+    same : (a : Answer Said) → OnlyArea (areaOf (pidOf p) (s .areas)) s store (still s store out a)
+    same a = record { filters = refl; next = refl; areas = λ j n. refl; size = refl; store′ = λ from n b. refl }
+
+    on : Handles s p store out → OnlyArea (areaOf (pidOf p) (s .areas)) s store (taken s (areaOf (pidOf p) (s .areas)) (outcome s (areaOf (pidOf p) (s .areas)) p store) store out)
+    on h =
+        let i = areaOf (pidOf p) (s .areas) in
+        let o = outcome s i p store in
+        let fits = held-fits s p store out eight h in
+        let inside = held-inside s p store out eight h in
+        record {
+          filters = refl;
+          next = refl;
+          areas = λ j n. getD-set-other (s .areas) i j (marked (getD (s .areas) i freeArea) o) freeArea n;
+          size = length-put store (baseOf i) (o .next .held) inside;
+          store′ = λ from n b. part-apart store (baseOf i) (o .next .held) inside 0 from n (outside (baseOf i) (length (o .next .held)) from n fits b);
+        }
+      where
+        outside : (base m from n : ℕ) → m ≤ 4095 → (from + n ≤ base) ⊎ (base + 4096 ≤ from) → (from + n ≤ base) ⊎ (base + m ≤ from)
+        outside base m from n f (inl b) = inl b
+        outside base m from n f (inr a) = inr (omega arith)

@@ -1,0 +1,14 @@
+pub mod Tally
+pub mod Clauses
+pub mod KeepsOpen
+pub mod KeepsClose
+pub mod Places
+pub mod Taken
+pub mod Brought
+pub mod Order
+pub mod Judging
+pub mod Frame
+pub mod Ways
+pub mod Keeps
+pub mod Stars
+pub mod Outcomes

@@ -1,0 +1,53 @@
+-- The packet call's order: each of its first tests that applies decides, and past them the packet's area does.
+-- Assumes nothing.
+use mathlib.Core.Path.{_≡_, refl, sym, _∙_, ap}
+use mathlib.Core.Bool.{Bool, true, false, cond, not}
+use mathlib.Core.List.{List}
+use Prim.Native.Nat.{ℕ, _≤_, _<_}
+use borrow.Author.Tests.{le-leb, lt-leb, ltb-false, eqb-true, not-false}
+use lib.Dec.{eqb, ltb}
+use lib.ListN.{length}
+use Rattle.rules.specs.Answer.{refused, given}
+use Rattle.rules.specs.Refusal.{Silent}
+use Rattle.rules.proofs.Refusal as table
+use Rattle.driver.proofs.Tally.{neither}
+use Rattle.packet.specs.Packet.{readPacket, packetRefusals}
+use Rattle.packet.proofs.Exact.{refused-exactly}
+use Rattle.driver.specs.State.{areaOf}
+use Rattle.driver.specs.Sound.{sound}
+use Rattle.driver.specs.Packet.{After, packetOf, still, unwanted, isWrongSize, pidOf, afterReading, afterTests}
+use Rattle.driver.specs.declared.State.{State}
+
+module _ (s : State) (p store out : List ℕ) where
+  pub packet-unsound : sound s ≡ false → packetOf s p store out ≡ still s store out (refused 1)
+  unfolding packetOf
+  packet-unsound e = rw e
+
+  pub packet-sizes : sound s ≡ true → isWrongSize store out ≡ true → packetOf s p store out ≡ still s store out (refused 3)
+  unfolding packetOf
+  packet-sizes e w = rw (e, w)
+
+  pub packet-refused : (n : ℕ) → sound s ≡ true → isWrongSize store out ≡ false → readPacket p ≡ refused n → packetOf s p store out ≡ still s store out (refused n)
+  unfolding packetOf
+  packet-refused n e w r =
+      rw (e, w)
+      (table.refused (λ n. still s store out (refused n)) (afterReading s (areaOf (pidOf p) (s .areas)) p store out) n (packetRefusals p) (refused-exactly p n .0 r))
+
+  pub packet-read : sound s ≡ true → isWrongSize store out ≡ false → Silent (packetRefusals p)
+      → packetOf s p store out ≡ afterReading s (areaOf (pidOf p) (s .areas)) p store out
+  unfolding packetOf
+  packet-read e w r = rw (e, w) (table.accepted (λ n. still s store out (refused n)) (afterReading s (areaOf (pidOf p) (s .areas)) p store out) (packetRefusals p) r)
+
+-- the area decides whether the packet is wanted
+module _ (s : State) (i : ℕ) (p store out : List ℕ) where
+  pub reading-unwanted : length (s .areas) ≤ i → afterReading s i p store out ≡ still s store out (given unwanted)
+  reading-unwanted h = rw (le-leb (length (s .areas)) i h)
+
+  pub reading-wanted : i < length (s .areas) → afterReading s i p store out ≡ afterTests s i p store out
+  reading-wanted h = rw (lt-leb (length (s .areas)) i h)
+
+-- sizes that are not wrong
+pub sizes-right : (store out : List ℕ) → isWrongSize store out ≡ false → (length store ≡ 32768) × (4278 ≤ length out)
+sizes-right store out e =
+    let parts = neither (not (eqb (length store) 32768)) (ltb (length out) 4278) e in
+    (eqb-true (length store) 32768 (not-false (eqb (length store) 32768) (parts .0)), ltb-false (length out) 4278 (parts .1))

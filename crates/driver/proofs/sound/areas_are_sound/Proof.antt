@@ -1,0 +1,92 @@
+-- What is left to test is what the answer hangs on: every area passed was sound.
+-- Assumes nothing.
+use mathlib.Core.Path.{_≡_, refl, sym, _∙_, ap}
+use mathlib.Core.Bool.{true, _&&_}
+use Prim.Native.Nat.{_≤_, _-_, _+_}
+use native.Mathlib.Numerals.{add-one}
+use native.Mathlib.Omega.{arith}
+use borrow.Author.Needs.{needs}
+use lib.ListN.{length, drop}
+use Rattle.rules.specs.Walk.{all}
+use borrow.Author.Tests.{not-true, not-false}
+use Rattle.rules.proofs.Walk.{all-stops, all-goes, all-ends}
+use Rattle.driver.specs.State.{freeArea}
+use Rattle.driver.specs.Sound.{soundArea}
+use Rattle.driver.proofs.sound.areas_are_sound.Statement.{statement}
+use Rattle.driver.proofs.sound.areas_are_sound.Tie as tie
+use Rattle.driver.proofs.sound.areas_are_sound.Reads as reads
+use Rattle.driver.proofs.sound.areas_are_sound.Lts as lts
+use Rattle.driver.proofs.sound.area_is_sound.Reads as area-is-sound-reads
+
+abbrev Inv-loop : tie.InvT-loop
+Inv-loop areas i₀ i = (i ≤ 8) × (all soundArea areas ≡ all soundArea (drop i areas))
+
+abbrev μ-loop : tie.MeasureT-loop
+μ-loop areas i₀ i = 8 - i
+
+-- src/sound.rt:36:5
+loop-holds : tie.Need-loop-holds Inv-loop μ-loop
+loop-holds c = search needs
+
+-- src/sound.rt:37:20
+mul-area : tie.Need-mul-area Inv-loop μ-loop
+mul-area c = search needs
+
+-- src/sound.rt:37:20
+array-copy-out-area : tie.Need-array-copy-out-area Inv-loop μ-loop
+array-copy-out-area c = search needs
+
+-- src/sound.rt:38:13
+area-is-sound-requires : tie.Need-area-is-sound-requires Inv-loop μ-loop
+area-is-sound-requires c κs = search needs
+
+-- src/sound.rt:39:13
+returns : tie.Need-returns Inv-loop μ-loop
+returns c =
+    let l = c .before .before .before .before .before .args .t1 in
+    let i = c .before .before .before .before .loop .i in
+    let long : length l ≡ 8 = search (needs) in
+    let e = not-true _ (c .if1 .taken) in
+    sym (all-stops soundArea l i (all soundArea l) (c .before .before .before .before .loop .inv .1) freeArea (omega arith) (sym (c .before .area-is-sound .ensures) ∙ e))
+
+-- src/sound.rt:41:9
+add-i : tie.Need-add-i Inv-loop μ-loop
+add-i c = search needs
+
+-- src/sound.rt:36:5
+loop-less : tie.Need-loop-less Inv-loop μ-loop
+loop-less c = search needs
+
+-- src/sound.rt:36:5
+loop-again : tie.Need-loop-again Inv-loop μ-loop
+loop-again c =
+    let l = c .before .before .before .before .before .args .t1 in
+    let i = c .before .before .before .before .loop .i in
+    let long : length l ≡ 8 = search (needs) in
+    let e = not-false _ (c .if1 .left) in (
+      omega arith,
+      all-goes soundArea l i (all soundArea l) (c .before .before .before .before .loop .inv .1) freeArea (omega arith) (sym (c .before .area-is-sound .ensures) ∙ e),
+    )
+
+-- src/sound.rt:32:1
+returns-2 : tie.Need-returns-2 Inv-loop μ-loop
+returns-2 c =
+    let l = c .before .before .args .t1 in
+    let long : length l ≡ 8 = search (needs) in
+    sym (all-ends soundArea l (c .before .loop .i) (all soundArea l) (c .before .loop .inv .1) (omega arith))
+
+pub areas-are-sound-spec : {M : Type 1} → statement M
+areas-are-sound-spec =
+    tie.close
+    (tie.spec
+    Inv-loop
+    μ-loop
+    loop-holds
+    mul-area
+    array-copy-out-area
+    area-is-sound-requires
+    returns
+    add-i
+    loop-less
+    loop-again
+    returns-2)

@@ -1,0 +1,141 @@
+// A wanted packet: its last tests, its payload gathered into its area, and the set of places it is for.
+ghost use mathlib.Core.Path.{_≡_};
+ghost use Prim.Native.Nat.{_≤_, _<_};
+ghost use lib.ListN.{length, getD};
+ghost use Rattle.rules.specs.Answer.{given};
+ghost use Rattle.packet.specs.Packet.{toldPacket, readPacket};
+ghost use Rattle.gather.specs.Rule.{rule};
+ghost use Rattle.gather.specs.Memory.{stateOf};
+ghost use Rattle.driver.specs.State.{baseOf, freeArea};
+ghost use Rattle.driver.specs.Packet.{told, afterTests, taken, placesOn, standingOn, Ready};
+use crate::Area;
+use crate::Filter;
+use crate::Handled;
+use crate::Handling;
+use crate::Report;
+use crate::State;
+use gather::Gathering;
+use packet::Packet;
+
+// Whether the filter at a place is open on this area, as a number.
+fn stands_on(filter: Filter, area: u8) -> u32
+    ensures { λ r. ⌜ r ≡ standingOn area filter ⌝ }
+{
+    if (filter.number != 0) & (filter.area == area) {
+        return 1;
+    }
+    0
+}
+
+// The set of places open on this area, the first place the least significant bit.
+fn places_on(filters: [Filter; 32], area: u8) -> u32
+    ensures { λ r. ⌜ r ≡ placesOn area filters ⌝ }
+{
+    let mut places: u32 = 0;
+    let mut i: usize = 32;
+    while 0 < i {
+        i -= 1;
+        let filter = filters[i];
+        places = places * 2 + stands_on(filter, area);
+    }
+    places
+}
+
+// A refused packet: the state as given.
+pub(crate) fn unhandled(state: State, number: u8) -> Handled
+    ensures { λ r. ⌜ r ≡ (record { state = state; answer = Handling.Refused number }) ⌝ }
+{
+    Handled {
+        state,
+        answer: Handling::Refused(number),
+    }
+}
+
+// The payload gathered into the PID's area, and the sections handed out.
+fn gathered(
+    state: State,
+    i: usize,
+    counter: u8,
+    start: bool,
+    payload: &[u8],
+    store: &mut [u8],
+    out: &mut [u8],
+) -> Handled
+    requires { ⌜ Ready state (now store) (now out) ⌝ }
+    requires { ⌜ (i < 8) × (length (now payload) ≤ 184) ⌝ }
+    ensures { λ r. ⌜ told r (now (store .exit)) (now (out .exit))
+        ≡ taken state i (rule (stateOf (getD (state .areas) i freeArea .marks) (now (store .entry)) (baseOf i))
+        (record { counter = counter; start = start; payload = now (payload .entry) })) (now (store .entry)) (now (out .entry)) ⌝ }
+{
+    let mut areas = state.areas;
+    let filters = state.filters;
+    let area = areas[i];
+    let marks = area.marks;
+    let gathering = gather::gather(marks, counter, start, payload, store, 4096 * i, out);
+    match gathering {
+        Gathering::Refused(n) => unhandled(state, n),
+        Gathering::Done(g) => {
+            let pid = area.pid;
+            let next = g.marks;
+            areas[i] = Area {
+                pid,
+                users: area.users,
+                marks: next,
+            };
+            Handled {
+                state: State {
+                    areas,
+                    filters,
+                    next: state.next,
+                },
+                answer: Handling::Wanted(Report {
+                    sections: g.sections,
+                    bytes: g.bytes,
+                    places: places_on(filters, i as u8),
+                    jump: g.jump,
+                    repeat: g.repeat,
+                    given_up: g.given_up,
+                }),
+            }
+        }
+    }
+}
+
+// The last three tests of a wanted packet, and then its payload gathered.
+pub(crate) fn wanted(
+    state: State,
+    i: usize,
+    packet: Packet,
+    bytes: &[u8],
+    store: &mut [u8],
+    out: &mut [u8],
+) -> Handled
+    requires { ⌜ Ready state (now store) (now out) ⌝ }
+    requires { ⌜ (i < 8) × (readPacket (now bytes) ≡ given (toldPacket packet)) ⌝ }
+    ensures { λ r. ⌜ told r (now (store .exit)) (now (out .exit))
+        ≡ afterTests state i (now (bytes .entry)) (now (store .entry)) (now (out .entry)) ⌝ }
+{
+    let areas = state.areas;
+    let area = areas[i];
+    let marks = area.marks;
+    if gather::contradicts(marks.held, store, 4096 * i) {
+        return unhandled(state, 9);
+    }
+    if packet.scrambling != 0 {
+        return unhandled(state, 10);
+    }
+    let at = packet::payload_start(packet);
+    let payload = &bytes[at..];
+    if gather::pointless(packet.unit_start, payload) {
+        return unhandled(state, 11);
+    }
+    gathered(
+        state,
+        i,
+        packet.counter,
+        packet.unit_start,
+        payload,
+        store,
+        out,
+    )
+}
