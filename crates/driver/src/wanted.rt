@@ -42,11 +42,11 @@ fn places_on(filters: [Filter; 32], area: u8) -> u32
 }
 
 // A refused packet: the state as given.
-pub(crate) fn unhandled(state: State, number: u8) -> Handled
-    ensures { λ r. ⌜ r ≡ (record { state = state; answer = Handling.Refused number }) ⌝ }
+pub(crate) fn unhandled(given: State, number: u8) -> Handled
+    ensures { λ r. ⌜ r ≡ (record { state = given; answer = Handling.Refused number }) ⌝ }
 {
     Handled {
-        state,
+        state: given,
         answer: Handling::Refused(number),
     }
 }
