@@ -1,13 +1,13 @@
 -- What a store of one element and a write of bytes leave as they were.
 -- Assumes nothing.
-use mathlib.Core.Path.{_≡_, refl, sym, _∙_, ap}
+use mathlib.Core.Path.{_≡_, sym, _∙_, ap}
 use mathlib.Core.List.{List}
 use mathlib.Core.Logic.{_⊎_, inl, inr}
 use Prim.Native.Nat.{ℕ, _+_, _-_, _≤_, _<_}
 use native.Mathlib.Decide.{ℕ-discrete}
 use native.Mathlib.Omega.{arith}
 use lib.ListN.{length, getD, take, drop, set, length-take, length-drop}
-use lib.Seq.{getD-set-same, getD-set-other, drop-drop, take-take, getD-take, getD-drop, ext-getD}
+use lib.Seq.{getD-set-same, getD-set-other, drop-drop, getD-take, getD-drop, ext-getD}
 use Rattle.rules.specs.Write.{put}
 use Rattle.rules.proofs.Write.{length-put, getD-before, after-put}
 

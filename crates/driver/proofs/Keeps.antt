@@ -1,38 +1,35 @@
 -- Every call keeps the state sound, and a packet call changes at most its own PID's area: a refusal changes nothing, and each accepted call touches one area.
 -- Assumes nothing.
-use mathlib.Core.Path.{_≡_, refl, sym, _∙_, ap}
-use mathlib.Core.Bool.{Bool, true, false, cond, _&&_}
+use mathlib.Core.Path.{_≡_, refl, _∙_, ap}
+use mathlib.Core.Bool.{Bool, true, cond, _&&_}
 use mathlib.Core.List.{List}
 use mathlib.Core.Logic.{_⊎_, inl, inr}
-use Prim.Native.Nat.{ℕ, _+_, _*_, _≤_, _<_}
+use Prim.Native.Nat.{ℕ, _+_, _≤_}
 use native.Mathlib.Omega.{arith}
-use borrow.Author.Tests.{eqb-true}
 use lib.Dec.{leb, eqb, ltb}
 use lib.ListN.{length, getD, set, length-set}
 use lib.Seq.{getD-set-other}
-use Rattle.rules.specs.Walk.{all, count}
-use Rattle.rules.specs.Write.{put}
-use Rattle.rules.proofs.Test.{both-true, true-both}
+use Rattle.rules.proofs.Test.{true-both}
 use Rattle.rules.proofs.Walk.{all-at, all-of, all-set, apart-set, find-passes}
 use Rattle.rules.proofs.Write.{length-put}
 use Rattle.gather.specs.Rule.{Outcome}
 use Rattle.gather.specs.Memory.{soundMarks, bytesAt, stateOf}
 use Rattle.gather.proofs.Laws.{rule-keeps}
 use Rattle.gather.proofs.Stored.{house, stays-sound}
-use Rattle.driver.specs.State.{fresh, isUsed, isOpen, isFree, standsOn, hasPid, areaOf, baseOf, freePlaceOf, placeOf, freeArea, freeFilter}
+use Rattle.driver.specs.State.{fresh, isUsed, isOpen, isFree, hasPid, areaOf, baseOf, freePlaceOf, placeOf, freeArea, freeFilter}
 use Rattle.driver.specs.Sound.{sound, soundArea, soundFilter, isZeroArea, samePid}
 use Rattle.driver.specs.Open.{areaFor, opened, openOf}
 use Rattle.driver.specs.Close.{closed, closeOf}
 use Rattle.rules.specs.Answer.{Answer, refused, given}
 use Rattle.driver.specs.Packet.{After, Said, unwanted, still, contents, pidOf, payloadOf, outcome, marked, taken, packetOf}
 use Rattle.driver.specs.declared.Area.{Area}
-use Rattle.driver.specs.declared.Filter.{Filter}
 use Rattle.driver.specs.declared.State.{State}
 use Rattle.driver.proofs.Tally.{counted-all}
 use Rattle.driver.proofs.Clauses.{Clauses, sound-tells, sound-says, users-are, used-sound}
 use Rattle.driver.proofs.KeepsOpen as ko
 use Rattle.driver.proofs.KeepsClose.{closed-clauses}
 use Rattle.driver.proofs.Frame.{unseen, part-apart}
+use Rattle.driver.proofs.Found.{found-area, found-place}
 use Rattle.driver.proofs.Ways.{Opens, open-ind, Closes, close-ind, Handles, packet-ind}
 
 pub fresh-sound : sound fresh ≡ true
@@ -48,16 +45,8 @@ opens-clauses s pid o =
 pub open-sound : (s : State) (pid : ℕ) → sound s ≡ true → sound (openOf s pid .state) ≡ true
 open-sound s pid e = open-ind s pid (λ o. sound (o .state) ≡ true) (λ n a b. e) (λ o. sound-says (opened s pid) (opens-clauses s pid o))
 
--- an open filter is found at the place of its number
-pub found : (s : State) (number : ℕ) → placeOf number (s .filters) < length (s .filters)
-    → (isOpen (getD (s .filters) (placeOf number (s .filters)) freeFilter) ≡ true) × (getD (s .filters) (placeOf number (s .filters)) freeFilter .number ≡ number)
-found s number h =
-    let f = getD (s .filters) (placeOf number (s .filters)) freeFilter in
-    let p = both-true (isOpen f) (eqb (f .number) number) (find-passes (λ f. isOpen f && eqb (f .number) number) (s .filters) freeFilter h) in
-    (p .0, eqb-true (f .number) number (p .1))
-
 pub closes-clauses : (s : State) (number : ℕ) → Closes s number → Clauses (closed s (placeOf number (s .filters)))
-closes-clauses s number c = closed-clauses s (placeOf number (s .filters)) (sound-tells s (c .fine)) (c .place) (found s number (c .place) .0)
+closes-clauses s number c = closed-clauses s (placeOf number (s .filters)) (sound-tells s (c .fine)) (c .place) (found-place number (s .filters) (c .place) .0)
 
 pub close-sound : (s : State) (number : ℕ) → sound s ≡ true → sound (closeOf s number .state) ≡ true
 close-sound s number e =
@@ -79,9 +68,7 @@ module _ (s : State) (p store out : List ℕ) (eight : length (s .areas) ≡ 8) 
 
   -- the area is used and has the packet's PID
   pub own-used : (isUsed area ≡ true) × (area .pid .0 ≡ pidOf p)
-  own-used =
-      let q = both-true (isUsed area) (eqb (area .pid .0) (pidOf p)) (find-passes (hasPid (pidOf p)) (s .areas) freeArea (h .area)) in
-      (q .0, eqb-true (area .pid .0) (pidOf p) (q .1))
+  own-used = found-area (pidOf p) (s .areas) (h .area)
 
   own-sound : (leb (area .pid .0) 0x1FFE ≡ true) × (soundMarks (area .marks) ≡ true)
   own-sound = used-sound area (all-at soundArea (s .areas) freeArea (clauses .areas) own (h .area)) (own-used .0)

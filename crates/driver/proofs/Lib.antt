@@ -8,6 +8,7 @@ pub mod Brought
 pub mod Order
 pub mod Judging
 pub mod Frame
+pub mod Found
 pub mod Ways
 pub mod Keeps
 pub mod Stars

@@ -10,7 +10,7 @@ use lib.ListN.{length}
 use Rattle.rules.specs.Answer.{refused, given}
 use Rattle.rules.specs.Refusal.{Silent}
 use Rattle.rules.proofs.Refusal as table
-use Rattle.driver.proofs.Tally.{neither}
+use Rattle.rules.proofs.Test.{neither}
 use Rattle.packet.specs.Packet.{readPacket, packetRefusals}
 use Rattle.packet.proofs.Exact.{refused-exactly}
 use Rattle.driver.specs.State.{areaOf}

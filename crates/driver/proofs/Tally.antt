@@ -13,7 +13,7 @@ use lib.Dec.{eqb, ltb, lit<}
 use lib.ListN.{length, drop, getD, set, replicate, getD-replicate, length-set, drop-of-length-le, List·getD-eq-default}
 use lib.Seq.{drop-cons, getD-set-same, getD-set-other}
 use Rattle.rules.specs.Walk.{all, apart, count, total}
-use Rattle.rules.proofs.Test.{both-true, true-both}
+use Rattle.rules.proofs.Test.{both-true, true-both, neither}
 use Rattle.rules.proofs.Walk.{all-at, all-of, all-goes, all-ends, apart-of, total-turn, total-at, count-le}
 use Rattle.driver.specs.State.{isOpen, isUsed, standsOn, freeArea, freeFilter}
 use Rattle.driver.specs.Sound.{soundFilter, counted, sameNumber}
@@ -251,11 +251,6 @@ passed-none next filters =
       tallied = λ k h. rw (getD-replicate {A = ℕ} 8 k 0 0 h) (zero-add (count (standsOn k) filters));
       unlike = λ e. met-none filters (replicate 64 0);
     }
-
--- neither of two
-pub neither : (a b : Bool) → (a || b) ≡ false → (a ≡ false) × (b ≡ false)
-neither true b e = absurd (false≢true (sym e))
-neither false b e = (refl, e)
 
 module _ (next : ℕ) (filters : List Filter) (counts met : List ℕ) (alike : Bool) (i : ℕ) (long : length filters ≡ 32) (p : Passed next filters counts met alike i) where
   pub passed-turn : i < 32 → fitsPlace next (getD filters i freeFilter) ≡ true

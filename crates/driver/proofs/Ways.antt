@@ -1,26 +1,26 @@
 -- The ways of a call: a refusal leaves everything as it was, and an accepted call passed every row of its table.
 -- Assumes nothing.
-use mathlib.Core.Path.{_≡_, refl, sym, _∙_, ap}
+use mathlib.Core.Path.{_≡_, refl, sym}
 use mathlib.Core.Bool.{Bool, true, false, cond, not, _||_, false≢true}
 use mathlib.Core.List.{List}
-use Prim.Native.Nat.{ℕ, _+_, _-_, _/_, _^_, _≤_, _<_}
+use Prim.Native.Nat.{ℕ, _/_, _^_, _≤_, _<_}
 use native.Mathlib.Nat.{mod-lt}
 use native.Mathlib.Omega.{arith}
 use borrow.Author.Tests.{ltb-false, leb-false, leb-true, eqb-true, not-true, not-false}
 use lib.Dec.{leb, eqb, ltb, lit<}
-use lib.ListN.{length, getD, drop, length-drop}
-use Rattle.rules.specs.Answer.{Answer, refused, given}
+use lib.ListN.{length, getD, length-drop}
+use Rattle.rules.proofs.Test.{neither}
+use Rattle.rules.specs.Answer.{refused, given}
 use Rattle.rules.specs.Refusal.{Silent}
 use Rattle.packet.specs.Perhaps.{Perhaps, there, absent}
-use Rattle.packet.specs.Packet.{headerOf, packetRefusals}
+use Rattle.packet.specs.Packet.{headerOf}
 use Rattle.packet.specs.Payload.{startAfter}
-use Rattle.gather.specs.Rule.{leavesNone}
 use Rattle.gather.specs.Memory.{contradictsOf}
 use Rattle.driver.specs.State.{areaOf, baseOf, freeArea, freePlaceOf, placeOf}
 use Rattle.driver.specs.Sound.{sound}
 use Rattle.driver.specs.Open as opening
 use Rattle.driver.specs.Close as closing
-use Rattle.driver.specs.Packet.{After, still, unwanted, contents, pidOf, payloadOf, isWrongSize, firstRefusals, lastRefusals, outcome, taken, afterTests, afterReading, packetOf}
+use Rattle.driver.specs.Packet.{After, still, unwanted, contents, pidOf, payloadOf, firstRefusals, lastRefusals, outcome, taken, afterTests, afterReading, packetOf}
 use Rattle.driver.specs.declared.State.{State}
 use Rattle.driver.proofs.Judging.{judge-ind}
 
@@ -85,10 +85,6 @@ pub record Handles (s : State) (p store out : List ℕ) : Type 0 where
   pub agrees : contradictsOf (getD (s .areas) (areaOf (pidOf p) (s .areas)) freeArea .marks .held) store (baseOf (areaOf (pidOf p) (s .areas))) ≡ false
   pub short : length (payloadOf p) ≤ 184
   pub counter : contents p .counter ≤ 15
-
-neither : (a b : Bool) → (a || b) ≡ false → (a ≡ false) × (b ≡ false)
-neither true b e = absurd (false≢true (sym e))
-neither false b e = (refl, e)
 
 starts-late : (size : Perhaps ℕ) → 4 ≤ startAfter size
 starts-late absent = omega arith

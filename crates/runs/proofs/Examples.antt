@@ -1,0 +1,70 @@
+-- Small runs, both sides of the demand: antt computes each.
+-- Assumes nothing.
+use mathlib.Core.Path.{_≡_, refl}
+use mathlib.Core.List.{List, [], _∷_, _++_}
+use Prim.Native.Nat.{ℕ}
+use lib.ListN.{replicate}
+use Rattle.rules.specs.Answer.{refused, given}
+use Rattle.rules.specs.Write.{put}
+use Rattle.gather.specs.Rule.{rule, walk, add, started}
+use Rattle.gather.specs.Section.{classify, kindOf}
+use Rattle.driver.specs.Open.{openOf}
+use Rattle.driver.specs.Close.{closeOf}
+use Rattle.driver.specs.Packet.{packetOf}
+use Rattle.driver.specs.Sound.{sound}
+use Rattle.runs.specs.Run.{Call, openCall, closeCall, packetCall, openEvent, closeEvent, start, logFrom}
+use Rattle.runs.specs.History.{Opening, Accepted, accepted, handed, packets, since, remembered, completed}
+
+-- a number is given, closed, refused 16 and never given again
+pub closed-for-good :
+    logFrom (start []) (openCall 0 ∷ closeCall 1 ∷ closeCall 1 ∷ openCall 0 ∷ [])
+    ≡ openEvent 0 (given (record { number = 2; place = 0 }))
+    ∷ closeEvent 1 (refused 16)
+    ∷ closeEvent 1 (given tt)
+    ∷ openEvent 0 (given (record { number = 1; place = 0 }))
+    ∷ []
+unfolding openOf closeOf sound
+closed-for-good = refl
+
+-- ---- what is handed
+abbrev after : List Call → List Accepted
+after calls = accepted (logFrom (start (replicate 32768 0)) calls)
+
+-- after the calls a filter was handed these sections, and these are what the rule completes
+abbrev Handed : Opening → List Call → List (List ℕ) → Type 0
+Handed f calls sections = (handed f (after calls) ≡ sections) × (completed (since f (after calls)) (packets (f .pid) (after calls)) ≡ sections)
+
+abbrev lend : List ℕ → Call
+lend p = packetCall p (replicate 4278 0)
+
+-- the first packet of document 01's listing: a section of four bytes on PID 0
+abbrev listed : List ℕ
+listed = 0x47 ∷ 0x40 ∷ 0x00 ∷ 0x10 ∷ 0x00 ∷ 0x80 ∷ 0x30 ∷ 0x01 ∷ 0xAA ∷ replicate 179 0xFF
+
+-- two packets of PID 0 that share a section of 303 bytes
+abbrev front : List ℕ
+front = 0x47 ∷ 0x40 ∷ 0x00 ∷ 0x10 ∷ 0x00 ∷ 0x80 ∷ 0xB1 ∷ 0x2C ∷ replicate 180 0x2A
+
+abbrev back : List ℕ
+back = 0x47 ∷ 0x00 ∷ 0x00 ∷ 0x11 ∷ replicate 120 0x2A ++ replicate 64 0xFF
+
+-- a filter is handed a section
+pub whole-section : Handed (record { number = 1; pid = 0; place = 0 }) (lend listed ∷ openCall 0 ∷ []) ((0x80 ∷ 0x30 ∷ 0x01 ∷ 0xAA ∷ []) ∷ [])
+unfolding openOf closeOf packetOf sound put rule walk add started classify kindOf remembered completed
+whole-section = (refl, refl)
+
+-- a filter that comes to a place after another is handed nothing of what that one was handed
+pub before-its-open : Handed (record { number = 2; pid = 0; place = 0 }) (openCall 0 ∷ closeCall 1 ∷ lend listed ∷ openCall 0 ∷ []) []
+unfolding openOf closeOf packetOf sound put rule walk add started classify kindOf remembered completed
+before-its-open = (refl, refl)
+
+-- a second filter that is opened in the midst of a section is handed it too
+pub shared-section :
+    Handed (record { number = 2; pid = 0; place = 1 }) (lend back ∷ openCall 0 ∷ lend front ∷ openCall 0 ∷ []) ((0x80 ∷ 0xB1 ∷ 0x2C ∷ replicate 300 0x2A) ∷ [])
+unfolding openOf closeOf packetOf sound put rule walk add started classify kindOf remembered completed
+shared-section = (refl, refl)
+
+-- the last close forgets what was held
+pub forgotten-section : Handed (record { number = 2; pid = 0; place = 0 }) (lend back ∷ openCall 0 ∷ closeCall 1 ∷ lend front ∷ openCall 0 ∷ []) []
+unfolding openOf closeOf packetOf sound put rule walk add started classify kindOf remembered completed
+forgotten-section = (refl, refl)

@@ -1,0 +1,251 @@
+-- An accepted open keeps the ledger: one user more on the PID's area, which is blank where it was free, and a number that none had.
+-- Assumes nothing.
+use mathlib.Core.Path.{_≡_, refl, sym, _∙_, ap, ap₂}
+use mathlib.Core.Bool.{Bool, true, false, cond, not, _&&_, false≢true}
+use mathlib.Core.List.{List, [], _∷_}
+use Prim.Native.Nat.{ℕ, _+_, _≤_, _<_}
+use native.Mathlib.Decide.{ℕ-discrete}
+use native.Mathlib.Omega.{arith}
+use borrow.Author.Tests.{eqb-true, eq-eqb, ne-eqb, not-true, not-false}
+use lib.Dec.{eqb}
+use lib.ListN.{length, getD, set, length-set}
+use lib.Seq.{getD-set-same, getD-set-other}
+use Rattle.rules.specs.Walk.{total}
+use Rattle.rules.proofs.Test.{both-true}
+use Rattle.rules.proofs.Walk.{total-set, find-passes, all-at}
+use Rattle.packet.specs.Perhaps.{there}
+use Rattle.gather.specs.Memory.{stateOf}
+use Rattle.driver.specs.State.{isUsed, isOpen, isFree, baseOf, freePlaceOf, freeArea, freeFilter}
+use Rattle.driver.specs.Sound.{soundArea, isZeroArea}
+use Rattle.driver.specs.Open.{areaFor, joined, opened as openedState}
+use Rattle.driver.specs.declared.Area.{Area}
+use Rattle.driver.specs.declared.Filter.{Filter}
+use Rattle.driver.specs.declared.State.{State}
+use Rattle.driver.proofs.Clauses.{open-stands}
+use Rattle.driver.proofs.KeepsOpen.{Taken, own, new, taken, others}
+use Rattle.driver.proofs.Found.{found-area}
+use Rattle.driver.proofs.Ways.{Opens}
+use Rattle.driver.proofs.Keeps.{opens-clauses}
+use Rattle.runs.specs.Run.{World}
+use Rattle.runs.specs.History.{Opening, Accepted, opened, opens, closes, openingOf, isClosed, packets, since, handed, blank, remembered, completed}
+use Rattle.runs.specs.Demand.{IsOpen}
+use Rattle.runs.proofs.AsRun.{remembered-none, completed-none}
+use Rattle.runs.proofs.Sums.{total-none}
+use Rattle.runs.proofs.Ledger.{usersOf, areaAt, filterAt, openingAt, Ledger, stood, busy, not-taken, still-taken}
+
+-- ---- the area that is taken
+-- where it is used it has the PID
+owned : (pid : ℕ) (areas : List Area) {i : ℕ} → Taken pid areas i → i < length areas → isUsed (getD areas i freeArea) ≡ true → getD areas i freeArea .pid .0 ≡ pid
+owned pid areas (own b) h u = found-area pid areas b .1
+owned pid areas (new b) h u =
+    absurd (false≢true (sym (ap not (find-passes (λ a. eqb (a .users) 0) areas freeArea h)) ∙ u))
+
+-- it has one user more
+joined-users : (pid q : ℕ) (a : Area) → (isUsed a ≡ true → a .pid .0 ≡ pid) → usersOf q (joined pid a) ≡ usersOf q a + cond (eqb pid q) 1 0
+joined-users pid q a owns = go (isUsed a) refl
+  where
+    used : isUsed (joined pid a) ≡ true
+    used = ap not (ne-eqb (a .users + 1) 0 (omega arith))
+
+    both : (b : Bool) → cond b (a .users + 1) 0 ≡ cond b (a .users) 0 + cond b 1 0
+    both true = refl
+    both false = refl
+
+    one : (b : Bool) → a .users ≡ 0 → cond b (a .users + 1) 0 ≡ 0 + cond b 1 0
+    one true z = omega arith
+    one false z = refl
+
+    go : (u : Bool) → isUsed a ≡ u → usersOf q (joined pid a) ≡ usersOf q a + cond (eqb pid q) 1 0
+    go true u = rw (used, u, owns u) (both (eqb pid q))
+    go false u = rw (used, u) (one (eqb pid q) (eqb-true (a .users) 0 (not-false (eqb (a .users) 0) u)))
+
+-- a sound area without users is blank
+free-blank : (a : Area) (store : List ℕ) (base : ℕ) → soundArea a ≡ true → isUsed a ≡ false → stateOf (a .marks) store base ≡ blank
+free-blank a store base e u =
+    let zero : isZeroArea a ≡ true = rw u at e in
+    let p2 = both-true (eqb (a .pid .0) 0 && eqb (a .marks .held) 0 && not (a .marks .seen)) (eqb (a .marks .counter) 0) zero in
+    let p1 = both-true (eqb (a .pid .0) 0 && eqb (a .marks .held) 0) (not (a .marks .seen)) (p2 .0) in
+    let p0 = both-true (eqb (a .pid .0) 0) (eqb (a .marks .held) 0) (p1 .0) in
+    rw (eqb-true (a .marks .held) 0 (p0 .1), not-true (a .marks .seen) (p1 .1))
+
+-- ---- the ledger
+module _ (w : World) (h : List Accepted) (l : Ledger w h) (pid : ℕ) (o : Opens (w .state) pid) where
+  abbrev s : State
+  s = w .state
+
+  abbrev a : ℕ
+  a = areaFor pid (s .areas)
+
+  abbrev p : ℕ
+  p = freePlaceOf (s .filters)
+
+  abbrev fresh : Opening
+  fresh = record { number = s .next; pid = pid; place = p }
+
+  abbrev area : Area
+  area = joined pid (areaAt s a)
+
+  abbrev filter : Filter
+  filter = record { number = s .next; area = a }
+
+  abbrev after : World
+  after = record { state = openedState s pid; store = w .store }
+
+  owns : isUsed (areaAt s a) ≡ true → areaAt s a .pid .0 ≡ pid
+  owns = owned pid (s .areas) (taken pid (s .areas)) (o .area)
+
+  free : filterAt s p .number ≡ 0
+  free = eqb-true (filterAt s p .number) 0 (find-passes isFree (s .filters) freeFilter (o .place))
+
+  balance : (q : ℕ) → total (usersOf q) (set (s .areas) a area) + closes q h ≡ cond (eqb pid q) 1 0 + opens q h
+  balance q =
+      let e = total-set (usersOf q) (s .areas) a area freeArea (o .area) in
+      let j = joined-users pid q (areaAt s a) owns in
+      let b = l .balance q in
+      omega arith
+
+  given : (number : ℕ) (f : Opening) → openingOf number (opened fresh ∷ h) ≡ there f → (1 ≤ number) × (number < s .next + 1)
+  given number f e = go (ℕ-discrete (s .next) number)
+    where
+      go : Dec (s .next ≡ number) → (1 ≤ number) × (number < s .next + 1)
+      go (yes r) = let one = l .clauses .from in (omega arith, omega arith)
+      go (no n) = let b = l .given number f (rw (ne-eqb (s .next) number n) at e) in (b .0, let c = b .1 in omega arith)
+
+  -- who was open before
+  before : (f : Opening) → IsOpen f (opened fresh ∷ h) → (s .next ≡ f .number → ⊥) → IsOpen f h
+  before f i n = record { opened = rw (ne-eqb (s .next) (f .number) n) at (i .opened); kept = i .kept }
+
+  stands : (f : Opening) → IsOpen f (opened fresh ∷ h) → (f .place < length (set (s .filters) p filter)) × (getD (set (s .filters) p filter) (f .place) freeFilter .number ≡ f .number)
+  stands f i = go (ℕ-discrete (s .next) (f .number))
+    where
+      go : Dec (s .next ≡ f .number) → (f .place < length (set (s .filters) p filter)) × (getD (set (s .filters) p filter) (f .place) freeFilter .number ≡ f .number)
+      go (yes r) =
+          let e : there fresh ≡ there f = rw (eq-eqb (s .next) (f .number) r) at (i .opened) in
+          let place : p ≡ f .place = cc in
+          rw (← place)
+          (rw length-set (o .place), ap (λ (g : Filter). g .number) (getD-set-same (s .filters) p filter freeFilter (o .place)) ∙ r)
+      go (no n) =
+          let st = stood w h l f (before f i n) in
+          let range = l .given (f .number) f (before f i n .opened) in
+          let else : f .place ≡ p → ⊥ = λ e. other (ap (λ (j : ℕ). filterAt s j .number) e ∙ free) (st .number) (range .0) in
+          (rw length-set (st .inside), ap (λ (g : Filter). g .number) (getD-set-other (s .filters) p (f .place) filter freeFilter else) ∙ st .number)
+        where
+          other : {m n : ℕ} → m ≡ 0 → m ≡ n → 1 ≤ n → ⊥
+          other z e b = omega arith
+
+  -- a number above all others was not closed
+  unclosed : isClosed (s .next) h ≡ false
+  unclosed = go (isClosed (s .next) h) refl
+    where
+      go : (b : Bool) → isClosed (s .next) h ≡ b → b ≡ false
+      go false e = refl
+      go true e = let b = l .ended (s .next) e in absurd (omega arith)
+
+  -- the PID of a used area is as before
+  same-pid : (i : ℕ) → isUsed (areaAt s i) ≡ true → getD (set (s .areas) a area) i freeArea .pid .0 ≡ areaAt s i .pid .0
+  same-pid i u = go (ℕ-discrete i a)
+    where
+      go : Dec (i ≡ a) → getD (set (s .areas) a area) i freeArea .pid .0 ≡ areaAt s i .pid .0
+      go (yes e) =
+          let u′ : isUsed (areaAt s a) ≡ true = ap (λ (j : ℕ). isUsed (areaAt s j)) (sym e) ∙ u in
+          ap (λ (j : ℕ). getD (set (s .areas) a area) j freeArea .pid .0) e
+          ∙ ap (λ (x : Area). x .pid .0) (getD-set-same (s .areas) a area freeArea (o .area))
+          ∙ sym (owns u′)
+          ∙ ap (λ (j : ℕ). areaAt s j .pid .0) (sym e)
+      go (no n) = ap (λ (x : Area). x .pid .0) (getD-set-other (s .areas) a i area freeArea n)
+
+  known : (j : ℕ) → j < length (set (s .filters) p filter) → isOpen (getD (set (s .filters) p filter) j freeFilter) ≡ true → IsOpen (openingAt (openedState s pid) j) (opened fresh ∷ h)
+  known j b i = go (ℕ-discrete j p)
+    where
+      go : Dec (j ≡ p) → IsOpen (openingAt (openedState s pid) j) (opened fresh ∷ h)
+      go (yes e) = rw is (record { opened = rw (eq-eqb (s .next) (s .next) refl); kept = unclosed })
+        where
+          at : getD (set (s .filters) p filter) p freeFilter ≡ filter
+          at = getD-set-same (s .filters) p filter freeFilter (o .place)
+
+          is : openingAt (openedState s pid) j ≡ fresh
+          is =
+              ap (openingAt (openedState s pid)) e
+              ∙ ap (λ (g : Filter). record { number = g .number; pid = getD (set (s .areas) a area) (g .area) freeArea .pid .0; place = p }) at
+              ∙ ap (λ (x : Area). record { number = s .next; pid = x .pid .0; place = p }) (getD-set-same (s .areas) a area freeArea (o .area))
+      go (no n) =
+          let was : IsOpen (openingAt s j) h = l .known j inside still in
+          let range = l .given (filterAt s j .number) (openingAt s j) (was .opened) in
+          rw is (record { opened = rw (ne-eqb (s .next) (filterAt s j .number) (λ e. above e (range .1))) (was .opened); kept = was .kept })
+        where
+          at : getD (set (s .filters) p filter) j freeFilter ≡ filterAt s j
+          at = getD-set-other (s .filters) p j filter freeFilter n
+
+          inside : j < length (s .filters)
+          inside = rw length-set at b
+
+          still : isOpen (filterAt s j) ≡ true
+          still = ap isOpen (sym at) ∙ i
+
+          is : openingAt (openedState s pid) j ≡ openingAt s j
+          is =
+              ap (λ (g : Filter). record { number = g .number; pid = getD (set (s .areas) a area) (g .area) freeArea .pid .0; place = j }) at
+              ∙ ap (λ (q : ℕ). record { number = filterAt s j .number; pid = q; place = j }) (same-pid (filterAt s j .area) (open-stands s (l .clauses) j inside still))
+
+          above : {m k : ℕ} → m ≡ k → k < m → ⊥
+          above e b = omega arith
+
+  -- where the area was free the PID had no users
+  none : isUsed (areaAt s a) ≡ false → opens pid h ≡ closes pid h
+  none u =
+      let z = total-none (usersOf pid) (s .areas) freeArea each in
+      let b = l .balance pid in
+      omega arith
+    where
+      each : (j : ℕ) → j < length (s .areas) → usersOf pid (areaAt s j) ≡ 0
+      each j b = go (ℕ-discrete j a)
+        where
+          go : Dec (j ≡ a) → usersOf pid (areaAt s j) ≡ 0
+          go (yes e) = rw (e, u)
+          go (no n) = rw (others pid (s .areas) (taken pid (s .areas)) (l .clauses .pids) j b n)
+
+  remembers : (i : ℕ) → i < length (set (s .areas) a area) → isUsed (getD (set (s .areas) a area) i freeArea) ≡ true
+      → stateOf (getD (set (s .areas) a area) i freeArea .marks) (w .store) (baseOf i) ≡ remembered (packets (getD (set (s .areas) a area) i freeArea .pid .0) (opened fresh ∷ h))
+  remembers i b u = go (ℕ-discrete i a)
+    where
+      here : (v : Bool) → isUsed (areaAt s a) ≡ v → stateOf (areaAt s a .marks) (w .store) (baseOf a) ≡ remembered (packets pid (opened fresh ∷ h))
+      here true v =
+          l .remembers a (o .area) v
+          ∙ ap remembered (ap (λ (q : ℕ). packets q h) (owns v) ∙ sym (not-taken w h l pid fresh (busy w h l a pid (o .area) v (owns v))))
+      here false v =
+          free-blank (areaAt s a) (w .store) (baseOf a) (all-at soundArea (s .areas) freeArea (l .clauses .areas) a (o .area)) v
+          ∙ sym remembered-none
+          ∙ sym (ap remembered (ap₂ (λ (c d : Bool). cond (c && d) [] (packets pid h)) (eq-eqb pid pid refl) (eq-eqb (opens pid h) (closes pid h) (none v))))
+
+      go : Dec (i ≡ a) → stateOf (getD (set (s .areas) a area) i freeArea .marks) (w .store) (baseOf i) ≡ remembered (packets (getD (set (s .areas) a area) i freeArea .pid .0) (opened fresh ∷ h))
+      go (yes e) = rw (e, getD-set-same (s .areas) a area freeArea (o .area)) (here (isUsed (areaAt s a)) refl)
+      go (no n) =
+          let same = getD-set-other (s .areas) a i area freeArea n in
+          let was : isUsed (areaAt s i) ≡ true = ap isUsed (sym same) ∙ u in
+          let inside : i < length (s .areas) = rw length-set at b in
+          rw same (l .remembers i inside was ∙ ap remembered (sym (not-taken w h l (areaAt s i .pid .0) fresh (busy w h l i (areaAt s i .pid .0) inside was refl))))
+
+  hands : (f : Opening) → IsOpen f (opened fresh ∷ h) → handed f (opened fresh ∷ h) ≡ completed (since f (opened fresh ∷ h)) (packets (f .pid) (opened fresh ∷ h))
+  hands f i = go (ℕ-discrete (s .next) (f .number))
+    where
+      go : Dec (s .next ≡ f .number) → handed f (opened fresh ∷ h) ≡ completed (since f (opened fresh ∷ h)) (packets (f .pid) (opened fresh ∷ h))
+      go (yes r) = rw (eq-eqb (s .next) (f .number) r) (sym (completed-none (packets (f .pid) (opened fresh ∷ h))))
+      go (no n) =
+          rw (ne-eqb (s .next) (f .number) n)
+          (l .hands f (before f i n) ∙ ap (completed (since f h)) (sym (still-taken w h l f fresh (before f i n))))
+
+  pub open-ledger : Ledger after (opened fresh ∷ h)
+  open-ledger =
+      record {
+        whole = l .whole;
+        eight = length-set (s .areas) a area ∙ l .eight;
+        clauses = opens-clauses s pid o;
+        balance = balance;
+        given = given;
+        ended = λ number e. let b = l .ended number e in omega arith;
+        stands = stands;
+        known = known;
+        remembers = remembers;
+        counts = (tt, l .counts);
+        hands = hands;
+      }

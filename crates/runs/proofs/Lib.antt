@@ -1,0 +1,11 @@
+pub mod Examples
+pub mod Sums
+pub mod AsRun
+pub mod Ledger
+pub mod LedgerOpen
+pub mod LedgerClose
+pub mod LedgerPacket
+pub mod Steps
+pub mod Alone
+pub mod InOrder
+pub mod Demand

@@ -1,0 +1,62 @@
+-- The third demand: "any run of opens, closes and packet calls from a fresh state, refused ones among them, each given the last state and a store nobody else has touched".
+use mathlib.Core.List.{List, [], _∷_}
+use Prim.Native.Nat.{ℕ}
+use Rattle.rules.specs.Answer.{Answer}
+use Rattle.driver.specs.State.{fresh}
+use Rattle.driver.specs.Open.{Place, openOf}
+use Rattle.driver.specs.Close.{closeOf}
+use Rattle.driver.specs.Packet.{Said, packetOf}
+use Rattle.driver.specs.declared.State.{State}
+
+-- a call: an open of a PID, a close of a number, or a packet with the output buffer that is lent for it; any values, for refused calls are calls
+pub data Call : Type 0 where
+  openCall : ℕ → Call
+  closeCall : ℕ → Call
+  packetCall : List ℕ → List ℕ → Call
+
+-- what one call leaves to the next: the state and the store
+pub record World : Type 0 where
+  pub state : State
+  pub store : List ℕ
+
+-- the whole question with the whole answer; for a packet also every byte of the output after it
+pub data Event : Type 0 where
+  openEvent : ℕ → Answer Place → Event
+  closeEvent : ℕ → Answer (Unit {0}) → Event
+  packetEvent : List ℕ → List ℕ → Answer Said → List ℕ → Event
+
+-- the world after a call, by the driver's own definitions
+abbrev pub after : World → Call → World
+after w (openCall pid) = record { state = openOf (w .state) pid .state; store = w .store }
+after w (closeCall number) = record { state = closeOf (w .state) number .state; store = w .store }
+after w (packetCall p out) = record { state = packetOf (w .state) p (w .store) out .state; store = packetOf (w .state) p (w .store) out .store }
+
+-- the event of a call, by the same definitions
+abbrev pub event : World → Call → Event
+event w (openCall pid) = openEvent pid (openOf (w .state) pid .answer)
+event w (closeCall number) = closeEvent number (closeOf (w .state) number .answer)
+event w (packetCall p out) = packetEvent p out (packetOf (w .state) p (w .store) out .answer) (packetOf (w .state) p (w .store) out .out)
+
+-- calls and logs stand last first: `c ∷ cs` is "run cs, then c"
+abbrev pub runFrom : World → List Call → World
+runFrom w [] = w
+runFrom w (c ∷ cs) = after (runFrom w cs) c
+
+-- the log of a run
+abbrev pub logFrom : World → List Call → List Event
+logFrom w [] = []
+logFrom w (c ∷ cs) = event (runFrom w cs) c ∷ logFrom w cs
+
+-- the fresh state and a store
+abbrev pub start : List ℕ → World
+start store = record { state = fresh; store = store }
+
+-- the same for calls as they come, first first
+abbrev pub playFrom : World → List Call → World
+playFrom w [] = w
+playFrom w (c ∷ cs) = playFrom (after w c) cs
+
+-- what is heard of calls as they come
+abbrev pub heardFrom : World → List Call → List Event
+heardFrom w [] = []
+heardFrom w (c ∷ cs) = event w c ∷ heardFrom (after w c) cs
