@@ -28,7 +28,7 @@ use Rattle.driver.proofs.Tally.{counted-all}
 use Rattle.driver.proofs.Clauses.{Clauses, sound-tells, sound-says, users-are, used-sound}
 use Rattle.driver.proofs.KeepsOpen as ko
 use Rattle.driver.proofs.KeepsClose.{closed-clauses}
-use Rattle.driver.proofs.Frame.{unseen, part-apart}
+use Rattle.rules.proofs.Frame.{unseen, part-apart}
 use Rattle.driver.proofs.Found.{found-area, found-place}
 use Rattle.driver.proofs.Ways.{Opens, open-ind, Closes, close-ind, Handles, packet-ind}
 

@@ -6,8 +6,6 @@ pub mod Places
 pub mod Taken
 pub mod Brought
 pub mod Order
-pub mod Judging
-pub mod Frame
 pub mod Found
 pub mod Ways
 pub mod Keeps

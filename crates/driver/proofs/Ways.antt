@@ -22,7 +22,7 @@ use Rattle.driver.specs.Open as opening
 use Rattle.driver.specs.Close as closing
 use Rattle.driver.specs.Packet.{After, still, unwanted, contents, pidOf, payloadOf, firstRefusals, lastRefusals, outcome, taken, afterTests, afterReading, packetOf}
 use Rattle.driver.specs.declared.State.{State}
-use Rattle.driver.proofs.Judging.{judge-ind}
+use Rattle.rules.proofs.Judged.{judge-ind}
 
 -- ---- open
 -- what an accepted open may rely on

@@ -8,7 +8,7 @@ use native.Mathlib.Omega.{arith}
 use lib.Dec.{eqb, leb}
 use lib.ListN.{length}
 use borrow.Author.Tests.{leb-true, eqb-true, eq-eqb, ne-eqb}
-use Rattle.rules.proofs.Write.{put-nil}
+use Rattle.rules.proofs.Write.{put-nil, put-same}
 use Rattle.gather.specs.declared.section.Kind.{Kind}
 use Rattle.gather.specs.declared.Marks.{Marks}
 use Rattle.gather.specs.declared.Gathering.the-variants.{Done}
@@ -20,7 +20,7 @@ use Rattle.gather.specs.Steps.{Carried, carried, carriedAs, unchangedOf,
 use Rattle.gather.proofs.Classes.{contradicting-kind}
 use Rattle.gather.proofs.Walk.{walk-fine}
 use Rattle.gather.proofs.Adding.{add-fine}
-use Rattle.gather.proofs.Parts.{append-nil, length-part, part-least, put-same}
+use Rattle.gather.proofs.Parts.{append-nil, length-part, part-least}
 use Rattle.gather.proofs.Carrying.{unfinished-le}
 
 -- what sound marks say

@@ -11,7 +11,7 @@ use native.Mathlib.Omega.{arith}
 use lib.ListN.{length, getD, take, drop, length-append, length-drop, take-append-drop, List·getD-eq-default, drop-of-length-le}
 use lib.Seq.{getD-take, getD-drop, getD-append-add, length-take-le, drop-drop, take-take, take-all, take-append-le, take-append-add, take-length}
 use Rattle.rules.specs.Write.{put}
-use Rattle.rules.proofs.Write.{put-put, put-nil}
+use Rattle.rules.proofs.Write.{put-put, put-nil, put-same}
 use Rattle.gather.specs.Memory.{bytesAt}
 
 pub append-nil : (a : List ℕ) → a ++ [] ≡ a
@@ -62,12 +62,6 @@ part-least n s at =
     ap (λ (k : ℕ). take (min n k) (drop (min at (length s)) s)) (sym (length-drop (min at (length s)) s))
     ∙ ap (λ (l : List ℕ). take (min n (length l)) l) (drop-least s at)
     ∙ take-least (drop at s) n
-
--- a part of a list written where it stands changes nothing
-pub put-same : (d : List ℕ) (at n : ℕ) → at + n ≤ length d → put d at (bytesAt n d at) ≡ d
-unfolding put
-put-same d at n h =
-    rw (length-part n d at h, ← drop-drop n at d, take-append-drop n (drop at d)) (take-append-drop at d)
 
 -- bytes written after a part of a list that stands where it is written
 pub put-after : (d : List ℕ) (at n : ℕ) (t : List ℕ) → at + n + length t ≤ length d → put d at (bytesAt n d at ++ t) ≡ put d (at + n) t

@@ -7,6 +7,7 @@ use mathlib.Core.Logic.{⊎-elim}
 use Prim.Native.Nat.{ℕ}
 use Rattle.rules.specs.Answer.{Answer, refused, given}
 use Rattle.rules.specs.Refusal.{Row, judge, Silent, First}
+use Rattle.rules.specs.Walk.{Every}
 use Rattle.rules.proofs.Answer.{given-apart, given-same, refused-same}
 use Rattle.rules.proofs.Refusal
 use Rattle.rules.proofs.Refusal.{accepted, verdict, only}
@@ -55,3 +56,26 @@ module _ {ℓ} {A : Type ℓ} (rows : List Row) (x : A) where
   -- where n was given n is the first that applies
   pub refused-by : (n : ℕ) → judge refused rows (given x) ≡ refused n → First n rows
   refused-by n = only refused (given x) rows n (λ m e. given-apart (sym e)) (λ m e. refused-same e)
+
+-- ---- what holds of every refusal that can apply and of the answer holds of the verdict
+module _ {ℓ} {A : Type ℓ} (refuse : ℕ → A) (P : A → Type 0) where
+  pub judge-ind : (rows : List Row) (answer : A) → Every (λ row. row .applies ≡ true → P (refuse (row .number))) rows → (Silent rows → P answer)
+      → P (judge refuse rows answer)
+  judge-ind [] answer each on = on tt
+  judge-ind (row ∷ rows) answer each on = go (row .applies) refl (judge-ind rows answer (each .1))
+    where
+      go : (b : Bool) → row .applies ≡ b → ((Silent rows → P answer) → P (judge refuse rows answer))
+          → P (cond b (refuse (row .number)) (judge refuse rows answer))
+      go true e rest = each .0 e
+      go false e rest = rest (λ s. on (e, s))
+
+-- a verdict seen through a function is the verdict of what is seen
+pub judge-seen {ℓ ℓ′} : {A : Type ℓ} {B : Type ℓ′} (see : A → B) (refuse : ℕ → A) (rows : List Row) (answer : A)
+    → see (judge refuse rows answer) ≡ judge (λ n. see (refuse n)) rows (see answer)
+judge-seen see refuse [] answer = refl
+judge-seen see refuse (row ∷ rows) answer = go (row .applies) (judge-seen see refuse rows answer)
+  where
+    go : (b : Bool) → see (judge refuse rows answer) ≡ judge (λ n. see (refuse n)) rows (see answer)
+        → see (cond b (refuse (row .number)) (judge refuse rows answer)) ≡ cond b (see (refuse (row .number))) (judge (λ n. see (refuse n)) rows (see answer))
+    go true e = refl
+    go false e = e

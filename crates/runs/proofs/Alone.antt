@@ -18,7 +18,7 @@ use Rattle.gather.specs.Rule.{Packet, leavesNone}
 use Rattle.driver.specs.State.{hasPid, areaOf, freeArea, freePlaceOf}
 use Rattle.driver.specs.Packet.{After, Said, wanted, unwanted, still, contents, pidOf, payloadOf, firstRefusals, lastRefusals, afterReading, afterTests, taken, outcome, packetOf}
 use Rattle.driver.specs.declared.State.{State}
-use Rattle.driver.proofs.Judging.{judge-seen}
+use Rattle.rules.proofs.Judged.{judge-seen}
 use Rattle.driver.proofs.Found.{has-pid}
 use Rattle.driver.proofs.Ways.{open-ind, close-ind, packet-ind}
 use Rattle.rules.proofs.Test.{neither}

@@ -29,7 +29,7 @@ use Rattle.driver.specs.declared.Report.{Report}
 use Rattle.driver.specs.declared.State.{State}
 use Rattle.driver.proofs.KeepsOpen.{only-one}
 use Rattle.driver.proofs.Clauses.{marks-sound}
-use Rattle.driver.proofs.Frame.{unseen, part-apart}
+use Rattle.rules.proofs.Frame.{unseen, part-apart}
 use Rattle.driver.proofs.Ways.{Handles}
 use Rattle.driver.proofs.Found.{has-pid, found-area}
 use Rattle.driver.proofs.Keeps.{held-fits, held-inside, handles-clauses}
