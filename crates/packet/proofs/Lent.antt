@@ -6,7 +6,7 @@ use Prim.Native.Nat.{ℕ, _+_, _-_}
 use native.Mathlib.Nat.{add-comm}
 use lib.ListN.{length, take, drop}
 use denote.Ref.{RefT, ptr, now}
-use Rattle.packet.specs.Payload.{Lent, lent, partFrom}
+use Rattle.rules.specs.Lent.{Lent, lent, partFrom}
 use Rattle.rules.proofs.Part.{part-drop}
 
 pub lent-part : (r : RefT (List ℕ)) (i : ℕ)

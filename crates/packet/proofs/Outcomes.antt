@@ -12,7 +12,8 @@ use Rattle.packet.specs.Pid
 use Rattle.packet.specs.Pid.{makePid}
 use Rattle.packet.specs.Adaptation.{Span, Field, toldLength, toldClock, toldCountdown, toldPart, toldField}
 use Rattle.packet.specs.Packet.{Contents, told, toldPacket, readPacket}
-use Rattle.packet.specs.Payload.{Lent, startAfter, payloadOf}
+use Rattle.rules.specs.Lent.{Lent}
+use Rattle.packet.specs.Payload.{startAfter, payloadOf}
 use Rattle.packet.specs.declared.pid.Making.{Making}
 use Rattle.packet.specs.declared.pid.Making.the-variants as making
 use Rattle.packet.specs.declared.adaptation.Length.{Length}

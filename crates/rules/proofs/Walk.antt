@@ -238,3 +238,8 @@ module _ {ℓ} {A : Type ℓ} (clash : A → A → Bool) where
 -- ---- an array that is a struct's field: its length is told of the list with a function mapped over it
 pub mapped-length {ℓ ℓ′} : {A : Type ℓ} {B : Type ℓ′} (f : A → B) (l : List A) (n : ℕ) → length (map f l) ≡ n → length l ≡ n
 mapped-length f l n e = sym (length-map l f) ∙ e
+
+-- P holds of every image of a list's elements where it holds of each
+pub every-map {ℓ ℓ′} : {A : Type ℓ} {B : Type ℓ′} (P : B → Type 0) (f : A → B) (l : List A) → Every (λ (x : A). P (f x)) l → Every P (map f l)
+every-map P f [] h = tt
+every-map P f (x ∷ xs) h = (h .0, every-map P f xs (h .1))

@@ -4,3 +4,4 @@ pub mod Write
 pub mod Walk
 pub mod Number
 pub mod Outcome
+pub mod Lent

@@ -7,7 +7,8 @@ use denote.Ref.{RefT, now}
 use Rattle.rules.specs.Outcome.{Determined}
 use Rattle.rules.proofs.Outcome.{determined}
 use Rattle.tables.specs.Pat.{patHeaderOf, patEntryOf}
-use Rattle.tables.specs.Pmt.{pmtHeaderOf, pmtEntryOf, descriptorIn, Seen, partOf}
+use Rattle.rules.specs.Lent.{Lent, lent}
+use Rattle.tables.specs.Pmt.{pmtHeaderOf, pmtEntryOf, descriptorIn, partOf}
 use Rattle.tables.specs.declared.pat.PatHeader.{PatHeader}
 use Rattle.tables.specs.declared.pat.PatEntry.{PatEntry}
 use Rattle.tables.specs.declared.pmt.PmtHeader.{PmtHeader}
@@ -33,8 +34,8 @@ pub entry-descriptor-determined : (s : List ℕ) (e i : ℕ) → Determined (λ 
 entry-descriptor-determined s e i = determined (descriptorIn s (e + 1) i)
 
 -- of a lent part, what a caller sees of it
-pub program-descriptor-bytes-determined : (s : RefT (List ℕ)) (i : ℕ) → Determined (λ (r : Seen). r ≡ partOf s (descriptorIn (now s) 0 i))
-program-descriptor-bytes-determined s i = determined (partOf s (descriptorIn (now s) 0 i))
+pub program-descriptor-bytes-determined : (s : RefT (List ℕ)) (i : ℕ) → Determined (λ (r : Lent). r ≡ partOf (lent s) (descriptorIn (now s) 0 i))
+program-descriptor-bytes-determined s i = determined (partOf (lent s) (descriptorIn (now s) 0 i))
 
-pub entry-descriptor-bytes-determined : (s : RefT (List ℕ)) (e i : ℕ) → Determined (λ (r : Seen). r ≡ partOf s (descriptorIn (now s) (e + 1) i))
-entry-descriptor-bytes-determined s e i = determined (partOf s (descriptorIn (now s) (e + 1) i))
+pub entry-descriptor-bytes-determined : (s : RefT (List ℕ)) (e i : ℕ) → Determined (λ (r : Lent). r ≡ partOf (lent s) (descriptorIn (now s) (e + 1) i))
+entry-descriptor-bytes-determined s e i = determined (partOf (lent s) (descriptorIn (now s) (e + 1) i))

@@ -5,7 +5,7 @@ use Prim.Native.Nat.{ℕ, _+_, _-_}
 use lib.Dec.{leb, eqb}
 use lib.ListN.{length, getD, take, drop}
 use lib.Seq.{slice}
-use denote.Ref.{RefT, ptr, now}
+use Rattle.rules.specs.Lent.{Lent, part}
 use Rattle.rules.specs.Number.{bits}
 use Rattle.rules.specs.Refusal.{Row, judge, _when_}
 use Rattle.tables.specs.Section.{byteAt, wordAt, headOf, pidOf}
@@ -104,23 +104,9 @@ abbrev pub sizeOf : PmtDescriptor → ℕ
 sizeOf (Given p) = p .size
 sizeOf (Refused n) = 0
 
--- What a caller sees of a lent part: the block of memory that it lies in, where in it, and its bytes
-pub record Seen : Type 0 where
-  pub block : ℕ
-  pub offset : ℕ
-  pub contents : List ℕ
-
--- What a caller sees of a reference
-abbrev pub seen : RefT (List ℕ) → Seen
-seen r = record { block = ptr r .0; offset = ptr r .1; contents = now r }
-
--- "the part of the caller's section that holds its bytes": of the section s, the part that an answer names
-abbrev pub partOf : RefT (List ℕ) → PmtDescriptor → Seen
-partOf s d = record {
-  block = ptr s .0;
-  offset = ptr s .1 + startOf (now s) d;
-  contents = take (sizeOf d) (drop (startOf (now s) d) (now s));
-}
+-- "the part of the caller's section that holds its bytes": of the lent section, the part that an answer names
+abbrev pub partOf : Lent → PmtDescriptor → Lent
+partOf l d = part l (startOf (l .bytes) d) (sizeOf d)
 
 -- What the walk over the body finds of what is asked for
 abbrev pub foundIn : List ℕ → Ask → Found

@@ -11,7 +11,8 @@ use crate::walk::descriptors;
 ghost use mathlib.Core.Path.{_≡_};
 ghost use Prim.Native.Nat.{_+_, _≤_};
 ghost use lib.ListN.{length};
-ghost use Rattle.tables.specs.Pmt.{pmtWalkedOf, pmtHeaderOf, pmtEntryOf, descriptorIn, startOf, sizeOf, seen, partOf};
+ghost use Rattle.rules.specs.Lent.{lent};
+ghost use Rattle.tables.specs.Pmt.{pmtWalkedOf, pmtHeaderOf, pmtEntryOf, descriptorIn, startOf, sizeOf, partOf};
 
 // An entry: an elementary stream's type, its PID and how many descriptors it has.
 pub struct Stream {
@@ -171,7 +172,7 @@ pub fn entry_descriptor(section: &[u8], entry: u16, index: u16) -> PmtDescriptor
 // The part of the section that holds a descriptor's bytes; for a refusal the empty part at its end.
 fn part(section: &[u8], d: PmtDescriptor) -> &[u8]
     requires { ⌜ startOf (now section) d + sizeOf d ≤ length (now section) ⌝ }
-    ensures { λ r. ⌜ seen r ≡ partOf (section .entry) d ⌝ }
+    ensures { λ r. ⌜ lent r ≡ partOf (lent (section .entry)) d ⌝ }
 {
     match d {
         PmtDescriptor::Descriptor(p) => {
@@ -188,7 +189,7 @@ fn part(section: &[u8], d: PmtDescriptor) -> &[u8]
 
 // The part of the section that holds the bytes of the program's descriptor with an index; for a refusal the empty part at its end.
 pub fn program_descriptor_bytes(section: &[u8], index: u16) -> &[u8]
-    ensures { λ r. ⌜ seen r ≡ partOf (section .entry) (descriptorIn (now (section .entry)) 0 index) ⌝ }
+    ensures { λ r. ⌜ lent r ≡ partOf (lent (section .entry)) (descriptorIn (now (section .entry)) 0 index) ⌝ }
 {
     let d = program_descriptor(section, index);
     part(section, d)
@@ -196,7 +197,7 @@ pub fn program_descriptor_bytes(section: &[u8], index: u16) -> &[u8]
 
 // The part of the section that holds the bytes of the descriptor with an index of the entry with an index; for a refusal the empty part at its end.
 pub fn entry_descriptor_bytes(section: &[u8], entry: u16, index: u16) -> &[u8]
-    ensures { λ r. ⌜ seen r ≡ partOf (section .entry) (descriptorIn (now (section .entry)) (entry + 1) index) ⌝ }
+    ensures { λ r. ⌜ lent r ≡ partOf (lent (section .entry)) (descriptorIn (now (section .entry)) (entry + 1) index) ⌝ }
 {
     let d = entry_descriptor(section, entry, index);
     part(section, d)

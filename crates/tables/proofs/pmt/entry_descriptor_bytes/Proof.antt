@@ -3,6 +3,7 @@
 use mathlib.Core.Path.{_∙_, ap, subst, sym}
 use Prim.Native.Nat.{_+_, _≤_}
 use lib.ListN.{length}
+use Rattle.rules.specs.Lent.{lent}
 use Rattle.tables.specs.Pmt.{startOf, sizeOf, partOf}
 use Rattle.tables.specs.declared.pmt.PmtDescriptor.{PmtDescriptor}
 use Rattle.tables.proofs.Answers.{part-inside}
@@ -20,7 +21,7 @@ part-requires c κs =
 
 returns : tie.Need-returns
 returns c =
-    c .part .ensures ∙ ap (partOf (c .before .before .before .args .section)) (c .before .entry-descriptor .ensures)
+    c .part .ensures ∙ ap (partOf (lent (c .before .before .before .args .section))) (c .before .entry-descriptor .ensures)
 
 pub entry-descriptor-bytes-spec : {M : Type 1} → statement M
 entry-descriptor-bytes-spec = tie.close (tie.spec entry-descriptor-requires part-requires returns)

@@ -54,7 +54,7 @@ returns c =
     let p = c .before .before .before .d .given .0 .0 in
     let e : c .before .before .before .before .before .args .d ≡ PmtDescriptor.Descriptor p = c .before .before .before .d .given .1 in
     let n : p .start + p .size - p .start ≡ p .size = omega arith in
-    rw e (ap₂ (λ (o : ℕ) (l : List ℕ). record { block = c .before .before .before .before .before .args .section .ptr .0; offset = o; contents = l })
+    rw e (ap₂ (λ (o : ℕ) (l : List ℕ). record { block = c .before .before .before .before .before .args .section .ptr .0; offset = o; bytes = l })
     (add-comm (p .start) (c .before .before .before .before .before .args .section .ptr .1)) (ap (λ (k : ℕ). take k (drop (p .start) s)) n))
 
 returns-2 : tie.Need-returns-2
@@ -62,7 +62,7 @@ returns-2 c =
     let s = c .before .before .before .args .section .now in
     let e : c .before .before .before .args .d ≡ PmtDescriptor.Refused _ = c .before .enum-told .given .1 in
     let n : length s - length s ≡ 0 = omega arith in
-    rw e (ap₂ (λ (o : ℕ) (l : List ℕ). record { block = c .before .before .before .args .section .ptr .0; offset = o; contents = l })
+    rw e (ap₂ (λ (o : ℕ) (l : List ℕ). record { block = c .before .before .before .args .section .ptr .0; offset = o; bytes = l })
     (add-comm (length s) (c .before .before .before .args .section .ptr .1)) (ap (λ (k : ℕ). take k (drop (length s) s)) n))
 
 pub part-spec : {M : Type 1} → statement M

@@ -1,0 +1,65 @@
+-- One byte of the piece a turn.
+-- Assumes nothing.
+use native.Mathlib.Omega.{arith}
+use borrow.Author.Needs.{needs}
+use Prim.Native.Nat.{_≤_, _-_}
+use mathlib.Core.Path.{_≡_, refl}
+use lib.ListN.{length}
+use Rattle.exercise.proofs.take_line.Statement.{statement}
+use Rattle.exercise.proofs.take_line.Tie as tie
+use Rattle.exercise.proofs.take_line.Reads as reads
+use Rattle.exercise.proofs.take_line.Lts as lts
+use Rattle.exercise.proofs.line.Line.with.Reads as with-reads
+
+abbrev Inv-loop : tie.InvT-loop
+Inv-loop piece from bytes₀ next₀ taken₀ bytes next taken = length bytes ≡ length bytes₀
+
+abbrev μ-loop : tie.MeasureT-loop
+μ-loop piece from bytes₀ next₀ taken₀ bytes next taken = length piece - next
+
+loop-holds : tie.Need-loop-holds Inv-loop μ-loop
+loop-holds c = refl
+
+shared-slice-read-b : tie.Need-shared-slice-read-b Inv-loop μ-loop
+shared-slice-read-b c = omega arith
+
+add-next : tie.Need-add-next Inv-loop μ-loop
+add-next c = omega arith
+
+same-length : tie.Need-same-length Inv-loop μ-loop
+same-length c = search needs
+
+returns : tie.Need-returns Inv-loop μ-loop
+returns c = search needs
+
+with-requires : tie.Need-with-requires Inv-loop μ-loop
+with-requires c κs = search needs
+
+loop-less : tie.Need-loop-less Inv-loop μ-loop
+loop-less c = omega arith
+
+loop-again : tie.Need-loop-again Inv-loop μ-loop
+loop-again c = search needs
+
+same-length-2 : tie.Need-same-length-2 Inv-loop μ-loop
+same-length-2 c = search needs
+
+returns-2 : tie.Need-returns-2 Inv-loop μ-loop
+returns-2 c = search needs
+
+pub take-line-spec : {M : Type 1} → statement M
+take-line-spec =
+    tie.close
+    (tie.spec
+    Inv-loop
+    μ-loop
+    loop-holds
+    shared-slice-read-b
+    add-next
+    same-length
+    returns
+    with-requires
+    loop-less
+    loop-again
+    same-length-2
+    returns-2)

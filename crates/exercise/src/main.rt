@@ -1,0 +1,237 @@
+// Reads a script of calls and writes each outcome whole: docs/EXERCISE.md has the format.
+mod calls;
+mod kept;
+mod line;
+mod others;
+mod print;
+mod sections;
+
+use crate::line::Line;
+use driver::State;
+use libc::STDIN_FILENO;
+use libc::STDOUT_FILENO;
+
+// What goes on from line to line: the state, the line that has begun, where the piece goes on, where the text ends, and whether to go on.
+struct Turn {
+    state: State,
+    line: Line,
+    next: usize,
+    at: usize,
+    is_on: bool,
+}
+
+// A line so far, where in the piece it goes on, and whether it has ended.
+struct Taken {
+    line: Line,
+    next: usize,
+    is_ended: bool,
+}
+
+// Takes bytes up to a line end.
+fn take_line(line: Line, piece: &[u8], from: usize, bytes: &mut [u8]) -> Taken {
+    let mut next = from;
+    let mut taken = line;
+    while next < piece.len() {
+        let b = piece[next];
+        next += 1;
+        if b == b'\n' {
+            return Taken {
+                line: taken,
+                next,
+                is_ended: true,
+            };
+        }
+        taken = taken.with(b, bytes);
+    }
+    Taken {
+        line: taken,
+        next,
+        is_ended: false,
+    }
+}
+
+// Writes the text.
+fn written(text: &[u8], at: usize) -> bool {
+    let is_written = io::write_all(STDOUT_FILENO, text::first(text, at));
+    if !is_written {
+        os::fail(b"standard output");
+    }
+    is_written
+}
+
+// The outcome of a line, and a line end behind it. The text is written once it is long: no outcome has 20,000 bytes.
+fn ended(
+    turn: Turn,
+    bytes: &mut [u8],
+    store: &mut [u8],
+    old_store: &mut [u8],
+    out: &mut [u8],
+    old_out: &mut [u8],
+    text: &mut [u8],
+) -> Turn {
+    let line = turn.line.ended();
+    let state = turn.state;
+    let after = calls::answer(
+        line,
+        state,
+        bytes,
+        store,
+        old_store,
+        out,
+        old_out,
+        text,
+        turn.at,
+    );
+    let end = text::byte(text, after.at, b'\n');
+    let state = after.state;
+    if end < 40_000 {
+        return Turn {
+            state,
+            line: Line::new(),
+            next: turn.next,
+            at: end,
+            is_on: true,
+        };
+    }
+    Turn {
+        state,
+        line: Line::new(),
+        next: turn.next,
+        at: 0,
+        is_on: written(text, end),
+    }
+}
+
+// Takes a line of the piece, and answers it where it ends there.
+fn answer_line(
+    turn: Turn,
+    piece: &[u8],
+    bytes: &mut [u8],
+    store: &mut [u8],
+    old_store: &mut [u8],
+    out: &mut [u8],
+    old_out: &mut [u8],
+    text: &mut [u8],
+) -> Turn {
+    let line = turn.line;
+    let taken = take_line(line, piece, turn.next, bytes);
+    let mut next = turn;
+    let line = taken.line;
+    next.line = line;
+    next.next = taken.next;
+    if !taken.is_ended {
+        return next;
+    }
+    ended(next, bytes, store, old_store, out, old_out, text)
+}
+
+// Whether there is more of the piece to take.
+fn is_left(turn: Turn, piece: &[u8]) -> bool {
+    turn.is_on & (turn.next < piece.len())
+}
+
+// Answers each line that ends in a piece, and begins the one that does not. There are no more lines than bytes.
+fn answer_piece(
+    turn: Turn,
+    piece: &[u8],
+    bytes: &mut [u8],
+    store: &mut [u8],
+    old_store: &mut [u8],
+    out: &mut [u8],
+    old_out: &mut [u8],
+    text: &mut [u8],
+) -> Turn {
+    let mut now = turn;
+    let mut left = piece.len();
+    while 0 < left && is_left(now, piece) {
+        now = answer_line(now, piece, bytes, store, old_store, out, old_out, text);
+        left -= 1;
+    }
+    now
+}
+
+// Reads a piece and answers its lines; at the script's end also the line that no line end followed.
+fn answer_some(
+    turn: Turn,
+    bytes: &mut [u8],
+    store: &mut [u8],
+    old_store: &mut [u8],
+    out: &mut [u8],
+    old_out: &mut [u8],
+    text: &mut [u8],
+) -> Turn {
+    let mut piece = io::large_buffer();
+    let got = libc::read(STDIN_FILENO, &mut piece);
+    if 0 < got {
+        let n = io::count(got, &piece);
+        let mut turn = turn;
+        turn.next = 0;
+        return answer_piece(
+            turn,
+            &piece[..n],
+            bytes,
+            store,
+            old_store,
+            out,
+            old_out,
+            text,
+        );
+    }
+    if got < 0 {
+        os::fail(b"standard input");
+    }
+    let line = turn.line;
+    if (got < 0) | line.is_empty() {
+        return stopped(turn, text);
+    }
+    let last = ended(turn, bytes, store, old_store, out, old_out, text);
+    stopped(last, text)
+}
+
+// The end: what is left of the text is written.
+fn stopped(turn: Turn, text: &[u8]) -> Turn {
+    written(text, turn.at);
+    let mut last = turn;
+    last.is_on = false;
+    last
+}
+
+// A proved loop has to end, and nothing says that a script does, so it counts down from a number that no run uses up.
+fn answer_all(
+    bytes: &mut [u8],
+    store: &mut [u8],
+    old_store: &mut [u8],
+    out: &mut [u8],
+    old_out: &mut [u8],
+    text: &mut [u8],
+) {
+    let mut turns = u64::MAX;
+    let mut turn = Turn {
+        state: driver::fresh(),
+        line: Line::new(),
+        next: 0,
+        at: 0,
+        is_on: true,
+    };
+    while 0 < turns && turn.is_on {
+        turn = answer_some(turn, bytes, store, old_store, out, old_out, text);
+        turns -= 1;
+    }
+}
+
+fn main() {
+    let mut bytes = [0u8; 8192];
+    let mut store = [0u8; 40960];
+    let mut old_store = [0u8; 40960];
+    let mut out = [0u8; 8192];
+    let mut old_out = [0u8; 8192];
+    let mut text = io::large_buffer();
+    answer_all(
+        &mut bytes,
+        &mut store,
+        &mut old_store,
+        &mut out,
+        &mut old_out,
+        &mut text,
+    );
+}

@@ -1,0 +1,130 @@
+// The lines of a packet: jump, repeat, cut and a line for each section, or the refusal.
+use driver::Handling;
+use driver::Report;
+
+// What stands in a column: a number, or the dash for none.
+enum Cell {
+    Number(u64),
+    Dash,
+}
+
+fn column(text: &mut [u8], at: usize, value: Cell) -> usize {
+    let end = text::byte(text, at, b'\t');
+    match value {
+        Cell::Number(n) => text::decimal(text, end, n),
+        Cell::Dash => text::byte(text, end, b'-'),
+    }
+}
+
+// The header line.
+pub(crate) fn header(text: &mut [u8], at: usize) -> usize {
+    text::word(text, at, b"packet\tpid\tword\tnumber\tbytes\n")
+}
+
+// One line: packet index, PID, word, number, bytes.
+fn line(
+    text: &mut [u8],
+    at: usize,
+    index: u64,
+    pid: Cell,
+    word: &[u8],
+    number: Cell,
+    bytes: Cell,
+) -> usize {
+    let mut end = text::decimal(text, at, index);
+    end = column(text, end, pid);
+    end = text::byte(text, end, b'\t');
+    end = text::word(text, end, word);
+    end = column(text, end, number);
+    end = column(text, end, bytes);
+    text::byte(text, end, b'\n')
+}
+
+// The lines of a packet on a PID that was answered so.
+pub(crate) fn packet(
+    text: &mut [u8],
+    at: usize,
+    index: u64,
+    pid: u16,
+    answer: Handling,
+    out: &[u8],
+) -> usize {
+    match answer {
+        Handling::NotWanted => at,
+        Handling::Refused(n) => {
+            let number = Cell::Number(n as u64);
+            line(text, at, index, Cell::Dash, b"refused", number, Cell::Dash)
+        }
+        Handling::Wanted(report) => {
+            let end = marks(text, at, index, pid, report);
+            sections(text, end, index, pid, report.sections, out)
+        }
+    }
+}
+
+// The lines of what happened beside sections, in document 01's order.
+fn marks(text: &mut [u8], at: usize, index: u64, pid: u16, report: Report) -> usize {
+    let cut = Cell::Number(report.given_up as u64);
+    let mut end = at;
+    end = mark(text, end, index, pid, b"jump", report.jump, Cell::Dash);
+    end = mark(text, end, index, pid, b"repeat", report.repeat, Cell::Dash);
+    mark(text, end, index, pid, b"cut", 0 < report.given_up, cut)
+}
+
+// A line where it is so, and none else.
+fn mark(
+    text: &mut [u8],
+    at: usize,
+    index: u64,
+    pid: u16,
+    word: &[u8],
+    is_so: bool,
+    number: Cell,
+) -> usize {
+    if !is_so {
+        return at;
+    }
+    let pid = Cell::Number(pid as u64);
+    line(text, at, index, pid, word, number, Cell::Dash)
+}
+
+// A line for each section; they stand joined at the start of the output.
+fn sections(text: &mut [u8], at: usize, index: u64, pid: u16, count: usize, out: &[u8]) -> usize {
+    let mut end = at;
+    let mut place: usize = 0;
+    let mut left = count;
+    while 0 < left {
+        let size = section_size(out, place);
+        end = section(text, end, index, pid, byte(out, place), size);
+        place = further(place, size);
+        left -= 1;
+    }
+    end
+}
+
+fn section(text: &mut [u8], at: usize, index: u64, pid: u16, table: u8, size: usize) -> usize {
+    let pid = Cell::Number(pid as u64);
+    let number = Cell::Number(table as u64);
+    let bytes = Cell::Number(size as u64);
+    line(text, at, index, pid, b"section", number, bytes)
+}
+
+// How many bytes the section at a place has.
+fn section_size(out: &[u8], place: usize) -> usize {
+    let high = byte(out, further(place, 1)) % 16;
+    let low = byte(out, further(place, 2));
+    3 + (high as usize) * 256 + (low as usize)
+}
+
+// The byte at a place, and 0 past the end.
+fn byte(bytes: &[u8], place: usize) -> u8 {
+    if place < bytes.len() {
+        return bytes[place];
+    }
+    0
+}
+
+// A place so many bytes further; no output has a place from 2^32 on.
+fn further(place: usize, bytes: usize) -> usize {
+    place % 0x1_0000_0000 + bytes % 0x1_0000_0000
+}

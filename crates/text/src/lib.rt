@@ -1,0 +1,50 @@
+// Text that a program prints, written piece by piece behind what is already there.
+ghost use mathlib.Core.Path.{_≡_};
+ghost use Rattle.rules.specs.Lent.{lent, part};
+ghost use Rattle.text.specs.Text.{Text, withByte, withBytes, decimalOf};
+
+// One byte more, and where the text ends then.
+pub fn byte(text: &mut [u8], at: usize, b: u8) -> usize
+    ensures { λ r. ⌜ (record { bytes = now (text .exit); end = r })
+        ≡ withByte (record { bytes = now (text .entry); end = at }) b ⌝ }
+{
+    if at < text.len() {
+        text[at] = b;
+        return at + 1;
+    }
+    at
+}
+
+// A word.
+pub fn word(text: &mut [u8], at: usize, letters: &[u8]) -> usize
+    ensures { λ r. ⌜ (record { bytes = now (text .exit); end = r })
+        ≡ withBytes (record { bytes = now (text .entry); end = at }) (now (letters .entry)) ⌝ }
+{
+    let mut end = at;
+    let mut i: usize = 0;
+    while i < letters.len() {
+        end = byte(text, end, letters[i]);
+        i += 1;
+    }
+    end
+}
+
+// A number in decimal digits.
+pub fn decimal(text: &mut [u8], at: usize, n: u64) -> usize
+    ensures { λ r. ⌜ (record { bytes = now (text .exit); end = r })
+        ≡ withBytes (record { bytes = now (text .entry); end = at }) (decimalOf n) ⌝ }
+{
+    let mut digits = [0u8; 20];
+    let size = io::decimal(n, &mut digits);
+    word(text, at, &digits[..size])
+}
+
+// The text itself: as many of the bytes as there are at most.
+pub fn first(text: &[u8], size: usize) -> &[u8]
+    ensures { λ r. ⌜ lent r ≡ part (lent (text .entry)) 0 size ⌝ }
+{
+    if size < text.len() {
+        return &text[..size];
+    }
+    text
+}

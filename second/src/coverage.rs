@@ -1,0 +1,166 @@
+//! Counts what outcomes hold, and names what they lack.
+
+use std::collections::BTreeMap;
+use std::io::{self, BufRead, Write};
+
+/// The least number of outcomes of each call word.
+const LEAST: u64 = 20_000;
+
+/// Each call word with the refusals that its order in document 01 has.
+const CALLS: [(&str, &[u32]); 19] = [
+    ("open", &[1, 12, 13, 14, 15]),
+    ("close", &[1, 16]),
+    ("packet", &[1, 3, 2, 4, 5, 6, 7, 8, 9, 10, 11]),
+    ("pid", &[12]),
+    ("alone", &[2, 4, 5, 6, 7, 8]),
+    ("pat", &[20, 23, 21, 25, 22, 24, 26]),
+    ("patitem", &[20, 23, 21, 25, 22, 24, 26, 27]),
+    ("pmt", &[20, 23, 21, 25, 22, 24, 26]),
+    ("pmtitem", &[20, 23, 21, 25, 22, 24, 26, 27]),
+    ("outer", &[20, 23, 21, 25, 22, 24, 26, 27]),
+    ("inner", &[20, 23, 21, 25, 22, 24, 26, 27]),
+    ("crc", &[]),
+    ("pes", &[30, 31, 32, 37, 33, 34, 35, 36]),
+    ("stamp", &[40, 41, 36]),
+    ("setstamp", &[40, 41]),
+    ("clock", &[41, 8]),
+    ("setclock", &[40, 41]),
+    ("apart", &[40]),
+    ("forward", &[40]),
+];
+
+/// Things that must occur beside the refusals.
+const MARKS: [&str; 14] = [
+    "wanted",
+    "unwanted",
+    "jump",
+    "repeat",
+    "cut1",
+    "cut2",
+    "sections61",
+    "given",
+    "closed",
+    "right",
+    "wrong",
+    "bare",
+    "full",
+    "bad",
+];
+
+const REFUSALS: [u32; 34] = [
+    1, 2, 3, 4, 5, 6, 7, 8, 9, 10, 11, 12, 13, 14, 15, 16, 20, 21, 22, 23, 24, 25, 26, 27, 30, 31,
+    32, 33, 34, 35, 36, 37, 40, 41,
+];
+
+#[derive(Default)]
+pub struct Counts {
+    of: BTreeMap<String, u64>,
+}
+
+impl Counts {
+    fn add(&mut self, name: &str) {
+        match self.of.get_mut(name) {
+            Some(count) => *count += 1,
+            None => {
+                self.of.insert(String::from(name), 1);
+            }
+        }
+    }
+
+    pub fn get(&self, name: &str) -> u64 {
+        self.of.get(name).copied().unwrap_or(0)
+    }
+
+    /// Counts one outcome under each name that fits it.
+    pub fn outcome(&mut self, line: &str) {
+        let parts: Vec<&str> = line.split(' ').collect();
+        self.add(&format!("call {}", parts[0]));
+        match parts.get(1) {
+            Some(&"refused") => {
+                let number = parts.get(2).copied().unwrap_or("-");
+                self.add(&format!("refused {}", number));
+                self.add(&format!("{} {}", parts[0], number));
+            }
+            Some(&"wanted") => self.wanted(&parts),
+            Some(word) if MARKS.contains(word) => self.add(word),
+            _ if line == "bad" => self.add("bad"),
+            _ => {}
+        }
+    }
+
+    fn wanted(&mut self, parts: &[&str]) {
+        self.add("wanted");
+        let marks = [
+            (2, "61", "sections61"),
+            (5, "1", "jump"),
+            (6, "1", "repeat"),
+            (7, "1", "cut1"),
+            (7, "2", "cut2"),
+        ];
+        for (place, value, name) in marks {
+            if parts.get(place) == Some(&value) {
+                self.add(name);
+            }
+        }
+    }
+}
+
+/// Prints the counts, and answers whether nothing is lacking.
+pub fn run(
+    input: &mut dyn BufRead,
+    output: &mut dyn Write,
+    lacks: &mut dyn Write,
+) -> io::Result<bool> {
+    let mut counts = Counts::default();
+    for line in input.lines() {
+        counts.outcome(&line?);
+    }
+    for refusal in REFUSALS {
+        let name = format!("refused {}", refusal);
+        writeln!(output, "{} {}", name, counts.get(&name))?;
+    }
+    for mark in MARKS {
+        writeln!(output, "{} {}", mark, counts.get(mark))?;
+    }
+    for (word, refusals) in CALLS {
+        let count = counts.get(&format!("call {}", word));
+        write!(output, "{} {}", word, count)?;
+        for refusal in refusals {
+            let refused = counts.get(&format!("{} {}", word, refusal));
+            write!(output, " {}:{}", refusal, refused)?;
+        }
+        writeln!(output)?;
+    }
+    output.flush()?;
+    let missing = missing(&counts);
+    for line in &missing {
+        writeln!(lacks, "{}", line)?;
+    }
+    Ok(missing.is_empty())
+}
+
+fn missing(counts: &Counts) -> Vec<String> {
+    let mut missing = Vec::new();
+    for refusal in REFUSALS {
+        if counts.get(&format!("refused {}", refusal)) == 0 {
+            missing.push(format!("never: refused {}", refusal));
+        }
+    }
+    for mark in MARKS {
+        if counts.get(mark) == 0 {
+            missing.push(format!("never: {}", mark));
+        }
+    }
+    for (word, refusals) in CALLS {
+        let count = counts.get(&format!("call {}", word));
+        if count < LEAST {
+            missing.push(format!("too few: {} {}", word, count));
+        }
+        for refusal in refusals {
+            if counts.get(&format!("{} {}", word, refusal)) == 0 {
+                missing.push(format!("never: {} refused {}", word, refusal));
+            }
+        }
+    }
+    missing
+}

@@ -1,0 +1,180 @@
+//! Document 01, "From payload to sections": the packet call on whole buffers.
+
+use crate::filters_and_areas::State;
+use crate::numbers_of_the_house::{
+    AREA_BYTES, LEAST_OUTPUT_BYTES, LONGEST_SECTION_LENGTH, STORE_BYTES,
+};
+use crate::refusal_numbers::{demand, number_in, Refusal};
+use crate::soundness::sound;
+use crate::the_packet::{read_packet, Reading};
+
+#[derive(Clone, Copy, Debug, Default, PartialEq, Eq)]
+pub struct Wanted {
+    pub sections: usize,
+    pub bytes: usize,
+    pub set: u32,
+    pub jump: bool,
+    pub repeat: bool,
+    pub given_up: u32,
+}
+
+#[derive(Clone, Copy, Debug, PartialEq, Eq)]
+pub enum Answer {
+    Unwanted,
+    Wanted(Wanted),
+}
+
+/// What the bytes from a section's first one on turn out to be.
+enum Start {
+    Whole(usize),
+    Unfinished,
+    TooLong,
+}
+
+#[derive(Default)]
+struct Gathered {
+    sections: Vec<Vec<u8>>,
+    held: Vec<u8>,
+    given_up: u32,
+}
+
+pub fn packet_call(
+    state: &mut State,
+    store: &mut [u8],
+    output: &mut [u8],
+    packet: &[u8],
+) -> Result<Answer, Refusal> {
+    demand(sound(state), 1)?;
+    let store_fits = store.len() == STORE_BYTES;
+    demand(store_fits && output.len() >= LEAST_OUTPUT_BYTES, 3)?;
+    let reading = read_packet(packet)?;
+    let area = match state.area_of(reading.pid) {
+        Some(area) => area,
+        None => return Ok(Answer::Unwanted),
+    };
+    let first = area * AREA_BYTES;
+    let held = store[first..first + state.areas[area].held as usize].to_vec();
+    demand(!contradicts(&held), 9)?;
+    demand(reading.scrambling == 0, 10)?;
+    let payload = &packet[reading.payload.start..];
+    demand(!pointer_leaves_nothing(&reading, payload), 11)?;
+    let mut answer = Wanted {
+        set: state.set_on(area),
+        ..Wanted::default()
+    };
+    if !payload.is_empty() {
+        let gathered = take_payload(state, area, &reading, held, payload, &mut answer);
+        store[first..first + gathered.held.len()].copy_from_slice(&gathered.held);
+        let joined = gathered.sections.concat();
+        output[..joined.len()].copy_from_slice(&joined);
+        answer.sections = gathered.sections.len();
+        answer.bytes = joined.len();
+        answer.given_up = gathered.given_up;
+    }
+    Ok(Answer::Wanted(answer))
+}
+
+fn contradicts(held: &[u8]) -> bool {
+    held.first() == Some(&0xFF) || !(held.is_empty() || matches!(start_of(held), Start::Unfinished))
+}
+
+fn pointer_leaves_nothing(reading: &Reading, payload: &[u8]) -> bool {
+    let pointer = payload.first().map(|byte| usize::from(*byte));
+    reading.unit_start && pointer.map_or(false, |pointer| pointer + 1 >= payload.len())
+}
+
+/// Marks repeat and jump, sets the area's record and gathers what is not dropped.
+fn take_payload(
+    state: &mut State,
+    area: usize,
+    reading: &Reading,
+    mut held: Vec<u8>,
+    payload: &[u8],
+    answer: &mut Wanted,
+) -> Gathered {
+    let record = &mut state.areas[area];
+    let step = (16 + reading.counter - record.counter) % 16;
+    answer.repeat = record.seen && step == 0;
+    answer.jump = record.seen && step > 1;
+    let mut gathered = Gathered::default();
+    if answer.repeat {
+        gathered.held = held;
+        return gathered;
+    }
+    if answer.jump && !held.is_empty() {
+        gathered.given_up += 1;
+        held.clear();
+    }
+    if reading.unit_start {
+        let (old, new) = payload[1..].split_at(usize::from(payload[0]));
+        end_section(&mut gathered, held, old);
+        start_sections(&mut gathered, new);
+    } else {
+        continue_section(&mut gathered, held, payload);
+    }
+    record.seen = true;
+    record.counter = reading.counter;
+    record.held = gathered.held.len() as u64;
+    gathered
+}
+
+fn start_of(bytes: &[u8]) -> Start {
+    if bytes.len() < 3 {
+        return Start::Unfinished;
+    }
+    let length = number_in(bytes, 1, 2) as usize % 4_096;
+    if length > LONGEST_SECTION_LENGTH {
+        Start::TooLong
+    } else if bytes.len() >= 3 + length {
+        Start::Whole(3 + length)
+    } else {
+        Start::Unfinished
+    }
+}
+
+/// Unit start 0: the bytes belong to the held section or to none.
+fn continue_section(gathered: &mut Gathered, held: Vec<u8>, payload: &[u8]) {
+    if held.is_empty() {
+        return;
+    }
+    let all = [held.as_slice(), payload].concat();
+    match start_of(&all) {
+        Start::Whole(size) => gathered.sections.push(all[..size].to_vec()),
+        Start::Unfinished => gathered.held = all,
+        Start::TooLong => gathered.given_up += 1,
+    }
+}
+
+/// The bytes before the pointed place: the held section ends in them or is given up.
+fn end_section(gathered: &mut Gathered, held: Vec<u8>, old: &[u8]) {
+    if held.is_empty() {
+        return;
+    }
+    let all = [held.as_slice(), old].concat();
+    match start_of(&all) {
+        Start::Whole(size) => gathered.sections.push(all[..size].to_vec()),
+        _ => gathered.given_up += 1,
+    }
+}
+
+/// The bytes from the pointed place on: section follows section.
+fn start_sections(gathered: &mut Gathered, new: &[u8]) {
+    let mut at = 0;
+    while at < new.len() && new[at] != 0xFF {
+        let rest = &new[at..];
+        match start_of(rest) {
+            Start::Whole(size) => {
+                gathered.sections.push(rest[..size].to_vec());
+                at += size;
+            }
+            Start::Unfinished => {
+                gathered.held = rest.to_vec();
+                return;
+            }
+            Start::TooLong => {
+                gathered.given_up += 1;
+                return;
+            }
+        }
+    }
+}

@@ -1,0 +1,48 @@
+//! Scripts of open, close and packet calls.
+
+mod contradictions;
+mod faults;
+mod house;
+mod joints;
+mod states;
+mod streams;
+mod unsound;
+
+use super::random::Random;
+use super::script::Script;
+
+pub use joints::any_packet;
+
+type Scenario = fn(&mut Random, &mut Script);
+
+/// Each scenario with its weight.
+const SCENARIOS: [(usize, Scenario); 9] = [
+    (4, streams::stream),
+    (26, joints::joint),
+    (8, joints::longest),
+    (16, faults::fault),
+    (16, unsound::broken),
+    (8, unsound::shaken),
+    (14, contradictions::contradiction),
+    (10, states::set_state),
+    (2, house::house),
+];
+
+/// One scenario, and now and then a look at the whole buffers.
+pub fn generate(random: &mut Random, script: &mut Script) {
+    let all: usize = SCENARIOS.iter().map(|(weight, _)| weight).sum();
+    let mut left = random.below(all);
+    for (weight, scenario) in SCENARIOS {
+        if left < weight {
+            scenario(random, script);
+            break;
+        }
+        left -= weight;
+    }
+    if random.one_in(50) {
+        let at = random.below(8_000);
+        let bytes = random.bytes(16);
+        script.set_up(&format!("output {} {}", at, super::script::field(&bytes)));
+        script.set_up("digest");
+    }
+}

@@ -1,0 +1,63 @@
+//! Packets with one fault or several, so that the order of refusals is seen.
+
+use super::super::packets::spoil;
+use super::super::random::Random;
+use super::super::script::Script;
+use super::joints::any_packet;
+use super::states::filter_pid;
+use crate::numbers_of_the_house::{LEAST_OUTPUT_BYTES, STORE_BYTES};
+
+/// The faults of the packet itself, put on in this order so that none undoes another.
+const FAULTS: [usize; 7] = [10, 8, 7, 6, 5, 4, 2];
+
+pub fn fault(random: &mut Random, script: &mut Script) {
+    let pid = filter_pid(random);
+    script.set_up("fresh");
+    if !random.one_in(6) {
+        script.call(&format!("open {}", pid));
+    }
+    for counter in 0..random.between(3, 8) {
+        let mut packet = any_packet(random, pid, counter as u8);
+        let first = random.below(FAULTS.len() + 2);
+        let mut faults: Vec<usize> = FAULTS.get(first).copied().into_iter().collect();
+        while random.one_in(4) {
+            faults.push(random.pick(&FAULTS));
+        }
+        for fault in FAULTS {
+            if faults.contains(&fault) {
+                spoil(random, &mut packet, fault);
+            }
+        }
+        if random.one_in(12) {
+            flip(random, &mut packet);
+        }
+        let (store, output) = lent(random);
+        script.packet_lent(store, output, &packet);
+    }
+    if random.one_in(2) {
+        script.call(&format!("close {}", random.between(0, 2)));
+    }
+}
+
+/// Turns one bit of the header or the adaptation field's first bytes.
+fn flip(random: &mut Random, packet: &mut [u8]) {
+    let at = random.below(packet.len().min(8));
+    if let Some(byte) = packet.get_mut(at) {
+        *byte ^= 1 << random.below(8);
+    }
+}
+
+/// The sizes of the lent store and output, mostly right ones.
+fn lent(random: &mut Random) -> (usize, usize) {
+    let store = match random.below(8) {
+        0 => random.pick(&[0, 1, 4_096, 32_767, 32_769, 40_960]),
+        _ => STORE_BYTES,
+    };
+    let output = match random.below(8) {
+        0 => random.pick(&[0, 1, 4_096, 4_277]),
+        1 => random.pick(&[4_279, 8_191]),
+        2..=4 => 8_192,
+        _ => LEAST_OUTPUT_BYTES,
+    };
+    (store, output)
+}

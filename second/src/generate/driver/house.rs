@@ -1,0 +1,47 @@
+//! A full house: all areas and places taken, freed and taken again.
+
+use super::super::random::Random;
+use super::super::script::Script;
+use super::joints::any_packet;
+use super::states::{counter_before, filter_pid, some_number};
+use crate::filters_and_areas::{close, open, State};
+
+pub fn house(random: &mut Random, script: &mut Script) {
+    let kinds = random.between(7, 10);
+    let pids: Vec<u16> = (0..kinds).map(|_| filter_pid(random)).collect();
+    let mut state = State::fresh();
+    script.set_up("fresh");
+    if random.one_in(3) {
+        state.next = random.pick(&[65_500, 65_520, 65_530]);
+        script.set_up(&format!("next {}", state.next));
+    }
+    let many = random.between(20, 60);
+    for step in 0..many {
+        match random.below(10) {
+            0..=1 if step > many / 2 => leave(random, script, &mut state),
+            0 => {
+                let pid = random.pick(&pids);
+                let counter = counter_before(&state, pid);
+                let packet = any_packet(random, pid, counter);
+                script.packet(&packet);
+            }
+            1 => leave(random, script, &mut state),
+            _ => {
+                let pid = random.pick(&pids);
+                script.call(&format!("open {}", pid));
+                // The generator follows the state only to know which numbers are open.
+                let _ = open(&mut state, pid);
+            }
+        }
+    }
+    for _ in 0..random.below(12) {
+        leave(random, script, &mut state);
+    }
+}
+
+fn leave(random: &mut Random, script: &mut Script, state: &mut State) {
+    let number = some_number(random, state);
+    script.call(&format!("close {}", number));
+    // A number that is not open is refused here as in the script.
+    let _ = close(state, number);
+}

@@ -1,0 +1,32 @@
+//! Document 01's examples, and what the commands promise.
+
+mod commands;
+mod filters;
+mod gathering;
+mod lines;
+mod recordings;
+mod sound;
+mod table_examples;
+mod time_examples;
+
+use crate::exercise::Exercise;
+
+/// A packet from its first bytes on, filled up with one byte.
+fn packet(first: &[u8], rest: u8) -> Vec<u8> {
+    let mut packet = first.to_vec();
+    packet.resize(188, rest);
+    packet
+}
+
+/// The outcomes of some lines in one run.
+fn outcomes(lines: &[&str]) -> Vec<String> {
+    let mut exercise = Exercise::new();
+    lines
+        .iter()
+        .map(|line| exercise.answer(line.as_bytes()))
+        .collect()
+}
+
+fn outcome(line: &str) -> String {
+    Exercise::new().answer(line.as_bytes())
+}

@@ -1,0 +1,97 @@
+//! The lines of a script and their outcomes.
+
+use super::{outcome, outcomes};
+use crate::exercise;
+
+#[test]
+fn document_01_as_a_script() {
+    let script = include_str!("../../examples/document-01.script");
+    let expected = include_str!("../../examples/document-01.expected");
+    let mut output = Vec::new();
+    exercise::run(&mut script.as_bytes(), &mut output).unwrap();
+    let output = String::from_utf8(output).unwrap();
+    let lines = script.lines().zip(output.lines().zip(expected.lines()));
+    for (line, (outcome, expected)) in lines {
+        assert_eq!(outcome, expected, "{}", line);
+    }
+    assert_eq!(output, expected);
+}
+
+const MALFORMED: [&str; 30] = [
+    "",
+    " ",
+    "Open 1",
+    "open",
+    "open ",
+    "open  1",
+    "open 1 ",
+    " open 1",
+    "open 1 2",
+    "open =01",
+    "open 65536",
+    "open 000000000000000000001",
+    "open +1",
+    "open 1\r",
+    "apart 18446744073709551616 0",
+    "area 8 0 0 0 0 0",
+    "area 0 0 0 0 2 0",
+    "store 40960 =00",
+    "store 40961 =",
+    "store 18446744073709551615 =00",
+    "output 8192 =00",
+    "packet 40961 0 =",
+    "packet 0 8193 =",
+    "crc =0",
+    "crc =0A",
+    "crc 00",
+    "crc = ",
+    "pat =00 1",
+    "fresh 1",
+    "setstampx 1 1 =",
+];
+
+#[test]
+fn malformed_lines() {
+    for line in MALFORMED {
+        assert_eq!(outcome(line), "bad", "{:?}", line);
+    }
+    assert_eq!(outcome(&format!("crc ={}", "0".repeat(16_386))), "bad");
+    assert_eq!(
+        outcome(&format!("crc ={}", "0".repeat(16_384))),
+        "crc wrong"
+    );
+}
+
+#[test]
+fn lines_at_their_limits() {
+    let pairs = [
+        ("open 00000000000000008191", "open refused 12 next 1"),
+        ("apart 18446744073709551615 0", "apart refused 40"),
+        ("store 40960 =", "store"),
+        ("output 8191 =ff", "output"),
+        ("next 4294967295", "next"),
+        ("area 7 65535 255 18446744073709551615 1 255", "area"),
+        ("packet 0 0 =", "packet refused 3 store - output - next 1"),
+        ("alone =", "alone refused 2 payload 0 1"),
+        ("crc =", "crc wrong"),
+    ];
+    for (line, expected) in pairs {
+        assert_eq!(outcome(line), expected);
+    }
+    let told = outcomes(&["area 7 65535 255 9 1 255", "close 0"]);
+    assert_eq!(told[1], "close refused 1 next 1 area 7 65535 255 9 1 255");
+}
+
+#[test]
+fn the_last_line_needs_no_end() {
+    let run = |script: &[u8]| {
+        let mut output = Vec::new();
+        exercise::run(&mut &*script, &mut output).unwrap();
+        String::from_utf8(output).unwrap()
+    };
+    assert_eq!(run(b""), "");
+    assert_eq!(run(b"\n"), "bad\n");
+    assert_eq!(run(b"pid 1"), "pid 1\n");
+    assert_eq!(run(b"pid 1\n"), "pid 1\n");
+    assert_eq!(run(b"\xff\x00\npid 1"), "bad\npid 1\n");
+}

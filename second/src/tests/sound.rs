@@ -1,0 +1,150 @@
+//! One test for each clause of soundness.
+
+use crate::filters_and_areas::{close, open, Area, Place, State};
+use crate::from_payload_to_sections::packet_call;
+use crate::refusal_numbers::Refusal;
+use crate::soundness::{self, sound, Clause, CLAUSES};
+
+/// Two PIDs, three filters, and bytes held on the second PID.
+fn right() -> State {
+    let mut state = State::fresh();
+    for pid in [0x10, 0x11, 0x10] {
+        assert!(open(&mut state, pid).is_ok());
+    }
+    state.areas[1].seen = true;
+    state.areas[1].counter = 15;
+    state.areas[1].held = 4_095;
+    assert!(sound(&state));
+    state
+}
+
+/// The state breaks that clause and no other, and every call of a state is refused 1.
+fn breaks(state: State, clause: Clause) {
+    assert!(!clause(&state));
+    let broken = CLAUSES.iter().filter(|clause| !clause(&state)).count();
+    assert_eq!(broken, 1);
+    let mut after = state.clone();
+    assert_eq!(open(&mut after, 0xFFFF), Err(Refusal(1)));
+    assert_eq!(close(&mut after, 0), Err(Refusal(1)));
+    let refused = packet_call(&mut after, &mut [], &mut [], &[]);
+    assert_eq!(refused, Err(Refusal(1)));
+    assert_eq!(after, state);
+}
+
+#[test]
+fn different_pids() {
+    let mut state = right();
+    state.areas[1].pid = 0x10;
+    breaks(state, soundness::used_areas_have_different_pids);
+}
+
+#[test]
+fn pids_for_filters() {
+    let mut state = right();
+    state.areas[1].pid = 0x1FFE;
+    assert!(sound(&state));
+    for pid in [0x1FFF, 0x2000, 0xFFFF] {
+        state.areas[1].pid = pid;
+        breaks(state.clone(), soundness::used_areas_have_pids_for_filters);
+    }
+}
+
+#[test]
+fn user_counts() {
+    for users in [1, 3, 255] {
+        let mut state = right();
+        state.areas[0].users = users;
+        breaks(state, soundness::user_counts_are_the_open_filters);
+    }
+}
+
+#[test]
+fn different_numbers() {
+    let mut state = right();
+    state.places[2].number = 1;
+    breaks(state, soundness::open_numbers_differ);
+}
+
+#[test]
+fn numbers_below_the_next() {
+    let mut state = right();
+    state.next = 3;
+    breaks(state, soundness::open_numbers_are_below_the_next);
+    let mut state = right();
+    state.places[0].number = 4;
+    breaks(state, soundness::open_numbers_are_below_the_next);
+}
+
+#[test]
+fn the_next_number() {
+    let mut state = right();
+    state.next = 65_536;
+    assert!(sound(&state));
+    state.next = 65_537;
+    breaks(state, soundness::the_next_number_is_in_range);
+    let mut state = State::fresh();
+    state.next = 0;
+    breaks(state, soundness::the_next_number_is_in_range);
+}
+
+#[test]
+fn held_bytes() {
+    for held in [4_096, 65_536, u64::MAX] {
+        let mut state = right();
+        state.areas[1].held = held;
+        breaks(state, soundness::held_bytes_are_below_a_whole_area);
+    }
+}
+
+#[test]
+fn areas_without_counter() {
+    let mut state = right();
+    state.areas[0].held = 1;
+    breaks(state, soundness::areas_without_counter_hold_nothing);
+    let mut state = right();
+    state.areas[0].counter = 1;
+    breaks(state, soundness::areas_without_counter_hold_nothing);
+}
+
+#[test]
+fn areas_with_counter() {
+    let mut state = right();
+    state.areas[1].counter = 16;
+    breaks(state, soundness::areas_with_counter_have_four_bits);
+}
+
+#[test]
+fn filters_on_used_areas() {
+    let mut state = right();
+    state.next = 5;
+    for area in [8, 255] {
+        state.places[9] = Place { number: 4, area };
+        breaks(state.clone(), soundness::open_filters_stand_on_used_areas);
+    }
+    state.places[9].area = 5;
+    assert!(!soundness::open_filters_stand_on_used_areas(&state));
+}
+
+#[test]
+fn free_records() {
+    let records = [
+        (1, false, 0, 0),
+        (0, true, 0, 0),
+        (0, true, 7, 0),
+        (0, true, 0, 1),
+    ];
+    for (pid, seen, counter, held) in records {
+        let mut state = right();
+        state.areas[7] = Area {
+            pid,
+            users: 0,
+            held,
+            seen,
+            counter,
+        };
+        breaks(state, soundness::free_records_are_zero);
+    }
+    let mut state = right();
+    state.places[31].area = 1;
+    breaks(state, soundness::free_records_are_zero);
+}
