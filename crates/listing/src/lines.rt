@@ -1,4 +1,11 @@
 // The lines of a packet: jump, repeat, cut and a line for each section, or the refusal.
+ghost use mathlib.Core.Path.{_≡_};
+ghost use mathlib.Core.List.{[], _∷_};
+ghost use Prim.Native.Nat.{_+_, min};
+ghost use lib.ListN.{getD, drop};
+ghost use Rattle.text.specs.Text.{upTo, withBytes};
+ghost use Rattle.listing.specs.Lines.{headerLine, cellOf, lineOf, markOf, marksOf, sizeOf, sectionsOf, packetOf};
+ghost use Rattle.listing.specs.Lines.{section as Lines·section};
 use driver::Handling;
 use driver::Report;
 
@@ -8,7 +15,11 @@ enum Cell {
     Dash,
 }
 
-fn column(text: &mut [u8], at: usize, value: Cell) -> usize {
+// A tab and a column.
+fn column(text: &mut [u8], at: usize, value: Cell) -> usize
+    ensures { λ r. ⌜ upTo (now (text .exit)) r
+        ≡ withBytes (upTo (now (text .entry)) at) (0x09 ∷ cellOf value) ⌝ }
+{
     let end = text::byte(text, at, b'\t');
     match value {
         Cell::Number(n) => text::decimal(text, end, n),
@@ -17,7 +28,9 @@ fn column(text: &mut [u8], at: usize, value: Cell) -> usize {
 }
 
 // The header line.
-pub(crate) fn header(text: &mut [u8], at: usize) -> usize {
+pub(crate) fn header(text: &mut [u8], at: usize) -> usize
+    ensures { λ r. ⌜ upTo (now (text .exit)) r ≡ withBytes (upTo (now (text .entry)) at) headerLine ⌝ }
+{
     text::word(text, at, b"packet\tpid\tword\tnumber\tbytes\n")
 }
 
@@ -30,7 +43,10 @@ fn line(
     word: &[u8],
     number: Cell,
     bytes: Cell,
-) -> usize {
+) -> usize
+    ensures { λ r. ⌜ upTo (now (text .exit)) r
+        ≡ withBytes (upTo (now (text .entry)) at) (lineOf index pid (now (word .entry)) number bytes) ⌝ }
+{
     let mut end = text::decimal(text, at, index);
     end = column(text, end, pid);
     end = text::byte(text, end, b'\t');
@@ -48,7 +64,10 @@ pub(crate) fn packet(
     pid: u16,
     answer: Handling,
     out: &[u8],
-) -> usize {
+) -> usize
+    ensures { λ r. ⌜ upTo (now (text .exit)) r
+        ≡ withBytes (upTo (now (text .entry)) at) (packetOf index pid answer (now (out .entry))) ⌝ }
+{
     match answer {
         Handling::NotWanted => at,
         Handling::Refused(n) => {
@@ -63,7 +82,10 @@ pub(crate) fn packet(
 }
 
 // The lines of what happened beside sections, in document 01's order.
-fn marks(text: &mut [u8], at: usize, index: u64, pid: u16, report: Report) -> usize {
+fn marks(text: &mut [u8], at: usize, index: u64, pid: u16, report: Report) -> usize
+    ensures { λ r. ⌜ upTo (now (text .exit)) r
+        ≡ withBytes (upTo (now (text .entry)) at) (marksOf index pid report) ⌝ }
+{
     let cut = Cell::Number(report.given_up as u64);
     let mut end = at;
     end = mark(text, end, index, pid, b"jump", report.jump, Cell::Dash);
@@ -80,29 +102,39 @@ fn mark(
     word: &[u8],
     is_so: bool,
     number: Cell,
-) -> usize {
-    if !is_so {
-        return at;
+) -> usize
+    ensures { λ r. ⌜ upTo (now (text .exit)) r
+        ≡ withBytes (upTo (now (text .entry)) at) (markOf index pid (now (word .entry)) «is_so» number) ⌝ }
+{
+    if is_so {
+        let pid = Cell::Number(pid as u64);
+        return line(text, at, index, pid, word, number, Cell::Dash);
     }
-    let pid = Cell::Number(pid as u64);
-    line(text, at, index, pid, word, number, Cell::Dash)
+    at
 }
 
 // A line for each section; they stand joined at the start of the output.
-fn sections(text: &mut [u8], at: usize, index: u64, pid: u16, count: usize, out: &[u8]) -> usize {
+fn sections(text: &mut [u8], at: usize, index: u64, pid: u16, count: usize, out: &[u8]) -> usize
+    ensures { λ r. ⌜ upTo (now (text .exit)) r
+        ≡ withBytes (upTo (now (text .entry)) at) (sectionsOf index pid count (now (out .entry))) ⌝ }
+{
     let mut end = at;
     let mut place: usize = 0;
     let mut left = count;
     while 0 < left {
         let size = section_size(out, place);
-        end = section(text, end, index, pid, byte(out, place), size);
-        place = further(place, size);
+        end = section(text, end, index, pid, byte(out, place, 0), size);
+        place = further(place, size, out.len());
         left -= 1;
     }
     end
 }
 
-fn section(text: &mut [u8], at: usize, index: u64, pid: u16, table: u8, size: usize) -> usize {
+// The line of a section of this table_id and size.
+fn section(text: &mut [u8], at: usize, index: u64, pid: u16, table: u8, size: usize) -> usize
+    ensures { λ r. ⌜ upTo (now (text .exit)) r
+        ≡ withBytes (upTo (now (text .entry)) at) (lineOf index (Cell.Number pid) Lines·section (Cell.Number table) (Cell.Number size)) ⌝ }
+{
     let pid = Cell::Number(pid as u64);
     let number = Cell::Number(table as u64);
     let bytes = Cell::Number(size as u64);
@@ -110,21 +142,34 @@ fn section(text: &mut [u8], at: usize, index: u64, pid: u16, table: u8, size: us
 }
 
 // How many bytes the section at a place has.
-fn section_size(out: &[u8], place: usize) -> usize {
-    let high = byte(out, further(place, 1)) % 16;
-    let low = byte(out, further(place, 2));
+fn section_size(out: &[u8], place: usize) -> usize
+    ensures { λ r. ⌜ r ≡ sizeOf (drop place (now (out .entry))) ⌝ }
+{
+    let high = byte(out, place, 1) % 16;
+    let low = byte(out, place, 2);
     3 + (high as usize) * 256 + (low as usize)
 }
 
-// The byte at a place, and 0 past the end.
-fn byte(bytes: &[u8], place: usize) -> u8 {
+// The byte so many behind a place, and 0 past the end.
+fn byte(bytes: &[u8], place: usize, behind: usize) -> u8
+    ensures { λ r. ⌜ r ≡ getD (drop place (now (bytes .entry))) behind 0 ⌝ }
+{
     if place < bytes.len() {
-        return bytes[place];
+        if behind < bytes.len() - place {
+            return bytes[place + behind];
+        }
     }
     0
 }
 
-// A place so many bytes further; no output has a place from 2^32 on.
-fn further(place: usize, bytes: usize) -> usize {
-    place % 0x1_0000_0000 + bytes % 0x1_0000_0000
+// A place so many bytes further, or the end.
+fn further(place: usize, bytes: usize, end: usize) -> usize
+    ensures { λ r. ⌜ r ≡ min (place + bytes) end ⌝ }
+{
+    if place < end {
+        if bytes < end - place {
+            return place + bytes;
+        }
+    }
+    end
 }

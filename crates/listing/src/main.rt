@@ -2,6 +2,8 @@
 mod lines;
 
 ghost use Prim.Native.Nat.{_≤_};
+ghost use Rattle.text.specs.Text.{upTo};
+ghost use Rattle.listing.specs.Lines.{Listed};
 use driver::State;
 use libc::STDIN_FILENO;
 use libc::STDOUT_FILENO;
@@ -35,13 +37,10 @@ fn flushed(turn: Turn, rest: usize, text: &[u8]) -> Turn {
 }
 
 // A packet handled, and its lines behind the text.
-fn list_packet(
-    turn: Turn,
-    bytes: &[u8],
-    store: &mut [u8],
-    out: &mut [u8],
-    text: &mut [u8],
-) -> Turn {
+fn list_packet(turn: Turn, bytes: &[u8], store: &mut [u8], out: &mut [u8], text: &mut [u8]) -> Turn
+    ensures { λ r. ⌜ Listed (turn .index) (turn .state) (now (bytes .entry)) (now (store .entry)) (now (out .entry)) (upTo (now (text .entry)) (turn .at))
+        (r .state) (now (store .exit)) (now (out .exit)) (upTo (now (text .exit)) (r .at)) ⌝ }
+{
     let state = turn.state;
     let handled = driver::packet(state, bytes, store, out);
     let answer = handled.answer;

@@ -10,6 +10,10 @@ pub record Text : Type 0 where
   pub bytes : List ℕ
   pub end : ℕ
 
+-- the text in these bytes up to this end
+abbrev pub upTo : List ℕ → ℕ → Text
+upTo bytes end = record { bytes = bytes; end = end }
+
 -- one byte more; where it has no place, all is left as it is
 abbrev pub withByte : Text → ℕ → Text
 withByte t b = cond (ltb (t .end) (length (t .bytes))) (record { bytes = set (t .bytes) (t .end) b; end = t .end + 1 }) t

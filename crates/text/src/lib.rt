@@ -1,12 +1,12 @@
 // Text that a program prints, written piece by piece behind what is already there.
 ghost use mathlib.Core.Path.{_≡_};
 ghost use Rattle.rules.specs.Lent.{lent, part};
-ghost use Rattle.text.specs.Text.{Text, withByte, withBytes, decimalOf};
+ghost use Rattle.text.specs.Text.{upTo, withByte, withBytes, decimalOf};
 
 // One byte more, and where the text ends then.
 pub fn byte(text: &mut [u8], at: usize, b: u8) -> usize
-    ensures { λ r. ⌜ (record { bytes = now (text .exit); end = r })
-        ≡ withByte (record { bytes = now (text .entry); end = at }) b ⌝ }
+    ensures { λ r. ⌜ upTo (now (text .exit)) r
+        ≡ withByte (upTo (now (text .entry)) at) b ⌝ }
 {
     if at < text.len() {
         text[at] = b;
@@ -17,8 +17,8 @@ pub fn byte(text: &mut [u8], at: usize, b: u8) -> usize
 
 // A word.
 pub fn word(text: &mut [u8], at: usize, letters: &[u8]) -> usize
-    ensures { λ r. ⌜ (record { bytes = now (text .exit); end = r })
-        ≡ withBytes (record { bytes = now (text .entry); end = at }) (now (letters .entry)) ⌝ }
+    ensures { λ r. ⌜ upTo (now (text .exit)) r
+        ≡ withBytes (upTo (now (text .entry)) at) (now (letters .entry)) ⌝ }
 {
     let mut end = at;
     let mut i: usize = 0;
@@ -31,8 +31,8 @@ pub fn word(text: &mut [u8], at: usize, letters: &[u8]) -> usize
 
 // A number in decimal digits.
 pub fn decimal(text: &mut [u8], at: usize, n: u64) -> usize
-    ensures { λ r. ⌜ (record { bytes = now (text .exit); end = r })
-        ≡ withBytes (record { bytes = now (text .entry); end = at }) (decimalOf n) ⌝ }
+    ensures { λ r. ⌜ upTo (now (text .exit)) r
+        ≡ withBytes (upTo (now (text .entry)) at) (decimalOf n) ⌝ }
 {
     let mut digits = [0u8; 20];
     let size = io::decimal(n, &mut digits);

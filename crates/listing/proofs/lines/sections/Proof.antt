@@ -1,10 +1,13 @@
--- One section a turn.
+-- One section a turn: what is written and what is left of the output make up all the lines.
 -- Assumes nothing.
+use mathlib.Core.Path.{_≡_, refl, sym, _∙_, ap}
+use Prim.Native.Nat.{ℕ}
 use native.Mathlib.Omega.{arith}
 use borrow.Author.Needs.{needs}
-use Prim.Native.Nat.{_≤_, _-_}
-use mathlib.Core.Path.{_≡_, refl}
-use lib.ListN.{length}
+use lib.ListN.{length, drop}
+use Rattle.text.specs.Text.{upTo, withBytes}
+use Rattle.listing.specs.Lines.{sectionsOf}
+use Rattle.listing.proofs.Sections.{turn}
 use Rattle.listing.proofs.lines.sections.Statement.{statement}
 use Rattle.listing.proofs.lines.sections.Tie as tie
 use Rattle.listing.proofs.lines.sections.Reads as reads
@@ -15,13 +18,15 @@ use Rattle.listing.proofs.lines.section.Reads as section-reads
 use Rattle.listing.proofs.lines.section_size.Reads as section-size-reads
 
 abbrev Inv-loop : tie.InvT-loop
-Inv-loop text₀ at index pid count out end₀ place₀ left₀ text end place left = length text ≡ length text₀
+Inv-loop text₀ at index pid count out end₀ place₀ left₀ text end place left =
+    (length text ≡ length text₀)
+    × (withBytes (upTo text end) (sectionsOf index pid left (drop place out)) ≡ withBytes (upTo text₀ at) (sectionsOf index pid count out))
 
 abbrev μ-loop : tie.MeasureT-loop
 μ-loop text₀ at index pid count out end₀ place₀ left₀ text end place left = left
 
 loop-holds : tie.Need-loop-holds Inv-loop μ-loop
-loop-holds c = refl
+loop-holds c = (refl, refl)
 
 section-size-requires : tie.Need-section-size-requires Inv-loop μ-loop
 section-size-requires c κs = search needs
@@ -42,13 +47,25 @@ loop-less : tie.Need-loop-less Inv-loop μ-loop
 loop-less c = omega arith
 
 loop-again : tie.Need-loop-again Inv-loop μ-loop
-loop-again c = search needs
+loop-again c =
+    let a = c .before .before .before .before .before .before .before .before .before .before .before .args in
+    let l = c .before .before .before .before .before .before .before .before .loop in (
+      search needs,
+      turn (upTo (l .text) (l .end)) (upTo (c .before .before .before .section .last .0) (c .before .before .before .section .result)) (a .index) (a .pid) (l .left) (l .place) (a .out .now)
+          (c .before .before .before .before .byte .result) (c .before .before .before .before .before .before .section-size .result) (c .further .result) (omega arith)
+          (c .before .before .before .before .byte .ensures) (c .before .before .before .before .before .before .section-size .ensures) (c .further .ensures) (c .before .before .before .section .ensures)
+          ∙ l .inv .1,
+    )
 
 same-length : tie.Need-same-length Inv-loop μ-loop
 same-length c = search needs
 
 returns : tie.Need-returns Inv-loop μ-loop
-returns c = search needs
+returns c =
+    let a = c .before .before .before .before .args in
+    let l = c .before .loop in
+    let none : l .left ≡ 0 = omega arith in
+    sym (ap (λ (k : ℕ). withBytes (upTo (l .text) (l .end)) (sectionsOf (a .index) (a .pid) k (drop (l .place) (a .out .now)))) none) ∙ l .inv .1
 
 pub sections-spec : {M : Type 1} → statement M
 sections-spec =
