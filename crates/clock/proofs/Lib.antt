@@ -1,7 +1,9 @@
 pub mod Modulus
+pub mod Turn
 pub mod Signed
 pub mod Field
-pub mod Outcomes
+pub mod Outcome
+pub mod Refusal
 pub mod RoundTrip
+pub mod Claims
 pub mod Stars
-pub mod Turns

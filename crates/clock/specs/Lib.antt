@@ -1,6 +1,9 @@
 pub mod Modulus
 pub mod Range
+pub mod Written
 pub mod Stamp
 pub mod Reference
 pub mod Difference
+pub mod Promises
 pub mod Stars
+pub mod Claims

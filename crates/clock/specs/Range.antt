@@ -11,9 +11,10 @@ stampTurn = 2 ^ 33
 abbrev pub referenceTurn : ℕ
 referenceTurn = 300 * 2 ^ 33
 
--- "a clock value out of range"
+-- "a clock value out of range", of a stamp
 abbrev pub isNoStamp : ℕ → Bool
 isNoStamp v = leb stampTurn v
 
+-- the same of a clock reference
 abbrev pub isNoReference : ℕ → Bool
 isNoReference v = leb referenceTurn v

@@ -8,7 +8,7 @@ use Rattle.rules.specs.Number.{bits, Field, field, pack, numberAt, bytesOf}
 use Rattle.rules.specs.Refusal.{Row, judge, _when_}
 use Rattle.rules.specs.Write.{put}
 use Rattle.clock.specs.Range.{isNoReference}
-use Rattle.clock.specs.Stamp.{Wrote, unwritten}
+use Rattle.clock.specs.Written.{Wrote, unwritten}
 use Rattle.clock.specs.declared.reference.Reading.{Reading}
 use Rattle.clock.specs.declared.reference.Reading.the-variants as reading
 
@@ -20,12 +20,15 @@ referenceLayout v = field 33 (v / 300) ∷ field 6 63 ∷ field 9 (v % 300) ∷ 
 abbrev pub referenceField : ℕ → ℕ
 referenceField v = pack (referenceLayout v)
 
+-- the base in a field
 abbrev pub baseOf : ℕ → ℕ
 baseOf n = bits n 15 33
 
+-- its reserved bits
 abbrev pub reservedOf : ℕ → ℕ
 reservedOf n = bits n 9 6
 
+-- its extension
 abbrev pub extensionOf : ℕ → ℕ
 extensionOf n = bits n 0 9
 
@@ -34,14 +37,15 @@ abbrev pub referenceOf : ℕ → ℕ
 referenceOf n = baseOf n * 300 + extensionOf n
 
 -- what a reading says in document 01's terms
-abbrev pub told : Reading → Answer ℕ
-told (reading.Value v) = given (v .0)
-told (reading.Refused n) = refused n
+abbrev pub toldReference : Reading → Answer ℕ
+toldReference (reading.Value v) = given (v .0)
+toldReference (reading.Refused n) = refused n
 
 -- "Reading a lone field: 41, 8"
 abbrev pub referenceReadRefusals : List ℕ → List Row
 referenceReadRefusals s = (41 when ltb (length s) 6) ∷ (8 when ltb 299 (extensionOf (numberAt s 0 6))) ∷ []
 
+-- "only the field's own first bytes are read"
 abbrev pub readReference : List ℕ → Answer ℕ
 readReference s = judge refused (referenceReadRefusals s) (given (referenceOf (numberAt s 0 6)))
 
@@ -49,6 +53,7 @@ readReference s = judge refused (referenceReadRefusals s) (given (referenceOf (n
 abbrev pub referenceWriteRefusals : List ℕ → ℕ → List Row
 referenceWriteRefusals s v = (40 when isNoReference v) ∷ (41 when ltb (length s) 6) ∷ []
 
+-- only the field's own first bytes are written, and every other byte is as before
 abbrev pub writeReference : List ℕ → ℕ → Wrote
 writeReference s v =
     judge (unwritten s) (referenceWriteRefusals s v) (record { answer = given tt; bytes = put s 0 (bytesOf 6 (referenceField v)) })

@@ -9,8 +9,7 @@ use Rattle.rules.specs.Number.{bits, Field, field, pack, numberAt, bytesOf}
 use Rattle.rules.specs.Refusal.{Row, judge, _when_}
 use Rattle.rules.specs.Write.{put}
 use Rattle.clock.specs.Range.{isNoStamp}
-use Rattle.clock.specs.declared.Written.{Written}
-use Rattle.clock.specs.declared.Written.the-variants as written
+use Rattle.clock.specs.Written.{Wrote, unwritten}
 use Rattle.clock.specs.declared.stamp.Reading.{Reading}
 use Rattle.clock.specs.declared.stamp.Reading.the-variants as reading
 
@@ -43,9 +42,9 @@ abbrev pub isNoPrefix : ℕ → Bool
 isNoPrefix prefix = not (leb 1 prefix && leb prefix 3)
 
 -- what a reading says in document 01's terms
-abbrev pub told : Reading → Answer ℕ
-told (reading.Value v) = given (v .0)
-told (reading.Refused n) = refused n
+abbrev pub toldStamp : Reading → Answer ℕ
+toldStamp (reading.Value v) = given (v .0)
+toldStamp (reading.Refused n) = refused n
 
 -- "Reading a lone field: 40 (prefix), 41, 36"
 abbrev pub stampReadRefusals : List ℕ → ℕ → List Row
@@ -58,19 +57,6 @@ stampReadRefusals s prefix =
 -- "only the field's own first bytes are read"
 abbrev pub readStamp : List ℕ → ℕ → Answer ℕ
 readStamp s prefix = judge refused (stampReadRefusals s prefix) (given (stampOf (numberAt s 0 5)))
-
--- what a write leaves: its answer, and every byte that was lent
-pub record Wrote : Type 0 where
-  pub answer : Answer (Unit {0})
-  pub bytes : List ℕ
-
-abbrev pub wrote : Written → List ℕ → Wrote
-wrote written.Done s = record { answer = given tt; bytes = s }
-wrote (written.Refused n) s = record { answer = refused n; bytes = s }
-
--- a refused write writes no byte
-abbrev pub unwritten : List ℕ → ℕ → Wrote
-unwritten s n = record { answer = refused n; bytes = s }
 
 -- "Writing one: 40, 41"
 abbrev pub stampWriteRefusals : List ℕ → ℕ → ℕ → List Row

@@ -1,14 +1,15 @@
 -- Document 01, "Examples": the eight ★ cases about time.
 use mathlib.Core.Path.{_≡_}
 use mathlib.Core.List.{List, [], _∷_}
-use Prim.Native.Nat.{ℕ, _+_, _-_, _^_}
+use Prim.Native.Nat.{ℕ, _-_, _^_}
 use lib.IntN.{ℤ, pos, negℤ}
 use lib.ListN.{replicate}
 use Rattle.rules.specs.Answer.{Answer, refused, given}
-use Rattle.clock.specs.Stamp.{writeStamp, Wrote}
+use Rattle.clock.specs.Stamp.{writeStamp}
 use Rattle.clock.specs.Reference.{readReference, writeReference}
 use Rattle.clock.specs.Difference.{stampDifference}
 
+-- the forms that they have
 pub data Case : Type 0 where
   -- a stamp behind a prefix is written as these bytes
   stampBytes : ℕ → ℕ → List ℕ → Case
@@ -26,6 +27,7 @@ Right (referenceBytes v bytes) = writeReference (replicate 6 0) v ≡ record { a
 Right (referenceRead bytes answer) = readReference bytes ≡ answer
 Right (stampLess a b d) = stampDifference a b ≡ given d
 
+-- each of them
 abbrev pub cases : List Case
 cases =
     stampBytes 0 2 (0x21 ∷ 0x00 ∷ 0x01 ∷ 0x00 ∷ 0x01 ∷ [])

@@ -2,11 +2,10 @@
 ghost use mathlib.Core.Path.{_≡_};
 ghost use mathlib.Core.List.{[], _∷_};
 ghost use Rattle.rules.specs.Number.{numberOf};
-ghost use Rattle.clock.specs.Stamp.{wrote};
 ghost use Prim.Native.Nat.{_<_};
 ghost use Rattle.clock.specs.Range.{referenceTurn};
-ghost use Rattle.clock.specs.Reference.{extensionOf, referenceOf, referenceField, told, readReference, writeReference};
-ghost use Rattle.clock.specs.Difference.{toldForward, referenceForward};
+ghost use Rattle.clock.specs.Reference.{extensionOf, referenceOf, referenceField};
+ghost use Rattle.clock.specs.Promises.{ReadsReference, WritesReference, TellsAhead};
 use crate::Written;
 
 // A count of 27 MHz. A number of 300·2^33 or above can be made, and every call refuses it.
@@ -50,7 +49,7 @@ fn value_of(n: u64) -> u64
 
 // The clock reference in the first six bytes.
 pub fn read(bytes: &[u8]) -> Reading
-    ensures { λ r. ⌜ told r ≡ readReference (now (bytes .entry)) ⌝ }
+    ensures { λ r. ⌜ ReadsReference (now (bytes .entry)) r ⌝ }
 {
     if bytes.len() < 6 {
         return Reading::Refused(41);
@@ -73,7 +72,7 @@ fn field_of(v: u64) -> u64
 
 // The clock reference in the first six bytes, its reserved bits ones.
 pub fn write(bytes: &mut [u8], reference: Reference) -> Written
-    ensures { λ r. ⌜ wrote r (now (bytes .exit)) ≡ writeReference (now (bytes .entry)) (reference .0) ⌝ }
+    ensures { λ r. ⌜ WritesReference (now (bytes .entry)) (reference .0) (r, now (bytes .exit)) ⌝ }
 {
     let v = reference.0;
     if TURN <= v {
@@ -94,7 +93,7 @@ pub fn write(bytes: &mut [u8], reference: Reference) -> Written
 
 // How far it is forward from b to a. The turn does not divide 2^64, so a wrapped subtraction would not do.
 pub fn forward(a: Reference, b: Reference) -> Ahead
-    ensures { λ r. ⌜ toldForward r ≡ referenceForward (a .0) (b .0) ⌝ }
+    ensures { λ r. ⌜ TellsAhead (a .0) (b .0) r ⌝ }
 {
     let x = a.0;
     let y = b.0;

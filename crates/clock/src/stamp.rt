@@ -1,9 +1,9 @@
 // Stamps (PTS, DTS): 33 bits in five bytes, behind a four-bit prefix and with three marker bits.
 ghost use mathlib.Core.Path.{_≡_};
 ghost use mathlib.Core.List.{[], _∷_};
-ghost use Rattle.rules.specs.Number.{numberOf, bytesOf};
-ghost use Rattle.clock.specs.Stamp.{isNoPrefix, isUnmarked, stampOf, stampField, told, readStamp, wrote, writeStamp};
-ghost use Rattle.clock.specs.Difference.{toldSigned, stampDifference};
+ghost use Rattle.rules.specs.Number.{numberOf};
+ghost use Rattle.clock.specs.Stamp.{isNoPrefix, isUnmarked, stampOf, stampField};
+ghost use Rattle.clock.specs.Promises.{ReadsStamp, WritesStamp, TellsApart};
 use crate::Written;
 
 // A count of 90 kHz. A number of 2^33 or above can be made, and every call refuses it.
@@ -57,7 +57,7 @@ fn value_of(n: u64) -> u64
 
 // The stamp whose field begins the bytes, behind the prefix that the caller names.
 pub fn read(bytes: &[u8], prefix: u8) -> Reading
-    ensures { λ r. ⌜ told r ≡ readStamp (now (bytes .entry)) prefix ⌝ }
+    ensures { λ r. ⌜ ReadsStamp (now (bytes .entry)) prefix r ⌝ }
 {
     if is_no_prefix(prefix) {
         return Reading::Refused(40);
@@ -87,7 +87,7 @@ fn field_of(prefix: u8, v: u64) -> u64
 
 // The stamp's field at the start of the bytes, behind the prefix that the caller names.
 pub fn write(bytes: &mut [u8], prefix: u8, stamp: Stamp) -> Written
-    ensures { λ r. ⌜ wrote r (now (bytes .exit)) ≡ writeStamp (now (bytes .entry)) prefix (stamp .0) ⌝ }
+    ensures { λ r. ⌜ WritesStamp (now (bytes .entry)) prefix (stamp .0) (r, now (bytes .exit)) ⌝ }
 {
     let v = stamp.0;
     if is_no_prefix(prefix) {
@@ -110,7 +110,7 @@ pub fn write(bytes: &mut [u8], prefix: u8, stamp: Stamp) -> Written
 
 // The signed difference a − b, by the shorter way round: 2^33 divides 2^64, so the wrapped subtraction may be reduced.
 pub fn difference(a: Stamp, b: Stamp) -> Apart
-    ensures { λ r. ⌜ toldSigned r ≡ stampDifference (a .0) (b .0) ⌝ }
+    ensures { λ r. ⌜ TellsApart (a .0) (b .0) r ⌝ }
 {
     let x = a.0;
     let y = b.0;

@@ -13,7 +13,8 @@ use lib.Seq.{length-take-le}
 use lib.Bits.{bitXor, xor-block, xor-zero-r}
 use Rattle.rules.specs.Walk.{all}
 use Rattle.crc.specs.Figure.{_⊕_, adderBehind, handOn, clock, msbFirst, bitsIn, bytesIn, decoder, right, registerOf, residueOf}
-use Rattle.crc.specs.Register.{turnOf, enterBits, enterBytes}
+use Rattle.crc.specs.Claims.{RightResidue}
+use Rattle.crc.specs.Steps.Register.{turnOf, enterBits, enterBytes}
 use Rattle.crc.proofs.Xor.{xor-bit}
 use Rattle.crc.proofs.Turn.{turn-small}
 
@@ -138,7 +139,7 @@ all-zero [] = refl
 all-zero (true ∷ zs) = sym (ne-eqb (registerOf zs * 2 + 1) 0 (λ e. omega arith))
 all-zero (false ∷ zs) = all-zero zs ∙ double-zero (registerOf zs)
 
--- CRC_32 is right where the residue is 0
-pub right-residue : (bytes : List ℕ) → right bytes ≡ eqb (residueOf bytes) 0
+-- the elements end at zero exactly where their number does
+pub right-residue : (bytes : List ℕ) → RightResidue bytes
 unfolding right residueOf
 right-residue bytes = all-zero (decoder bytes)

@@ -11,6 +11,6 @@ unfolding clock decoder right
 pat = refl
 
 -- the digits 1 to 9 as ASCII
-pub digits : residueOf (49 ∷ 50 ∷ 51 ∷ 52 ∷ 53 ∷ 54 ∷ 55 ∷ 56 ∷ 57 ∷ []) ≡ 0x0376E6E7
+pub digits : residueOf (0x31 ∷ 0x32 ∷ 0x33 ∷ 0x34 ∷ 0x35 ∷ 0x36 ∷ 0x37 ∷ 0x38 ∷ 0x39 ∷ []) ≡ 0x0376E6E7
 unfolding clock decoder residueOf
 digits = refl

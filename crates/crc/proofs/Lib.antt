@@ -4,4 +4,4 @@ pub mod Turn
 pub mod Bridge
 pub mod Entries
 pub mod Rule
-pub mod Outcomes
+pub mod Claims

@@ -9,8 +9,8 @@ use native.Mathlib.Omega.{arith}
 use lib.Dec.{lit<}
 use lib.ListN.{length}
 use lib.Pow.{pow-pos}
-use lib.Bits.{bitXor, xor-mod, xor-shr, xor-zero-r, xor-comm, xor-lt}
-use Rattle.crc.specs.Register.{turnOf, turns, enterBits}
+use lib.Bits.{bitXor, xor-mod, xor-shr, xor-zero-r, xor-comm}
+use Rattle.crc.specs.Steps.Register.{turnOf, turns, enterBits}
 use Rattle.crc.proofs.Xor.{bit-cases, xor-assoc, xor-swap, xor-shl}
 
 -- the polynomial, added or not
@@ -32,13 +32,6 @@ turn-xor a b =
 pub turns-xor : (n a b : ℕ) → turns n (bitXor a b) ≡ bitXor (turns n a) (turns n b)
 turns-xor zero a b = refl
 turns-xor (suc n) a b = ap (turns n) (turn-xor a b) ∙ turns-xor n (turnOf a) (turnOf b)
-
--- a turn keeps the register within its 32 bits
-pub turn-lt : (v : ℕ) → turnOf v < 2 ^ 32
-unfolding turnOf
-turn-lt v =
-    xor-lt 32 (v * 2 % 2 ^ 32) (v / 2 ^ 31 % 2 * 0x04C11DB7) (mod-lt (v * 2) (lit< tt))
-    (bit-cases (λ x. x * 0x04C11DB7 < 2 ^ 32) (lit< tt) (lit< tt) (v / 2 ^ 31 % 2) (mod-lt (v / 2 ^ 31) (lit< tt)))
 
 -- where no bit leaves the register a turn doubles it
 pub turn-small : (v : ℕ) → v < 2 ^ 31 → turnOf v ≡ v * 2

@@ -6,7 +6,7 @@ use native.Mathlib.Nat.{mod-lt, add-zero, le-of-suc-le-suc, not-suc-le-zero}
 use lib.Arith.{bin-ind}
 use lib.Dec.{lit<}
 use lib.Pow.{split, pow-pos}
-use lib.Bits.{bitXor, xor-block, xor-shr, xor-mod, xor-comm, xor-self, xor-zero-r}
+use lib.Bits.{bitXor, xor-block, xor-shr, xor-mod, xor-comm}
 
 -- what holds of 0 and of 1 holds of every bit
 pub bit-cases : (P : ℕ → Type 0) → P 0 → P 1 → (x : ℕ) → x < 2 → P x
@@ -47,10 +47,6 @@ xor-left-comm a b c = sym (xor-assoc a b c) ∙ ap (λ (x : ℕ). bitXor x c) (x
 pub xor-swap : (a b c d : ℕ) → bitXor (bitXor a b) (bitXor c d) ≡ bitXor (bitXor a c) (bitXor b d)
 xor-swap a b c d =
     xor-assoc a b (bitXor c d) ∙ ap (λ (x : ℕ). bitXor a x) (xor-left-comm b c d) ∙ sym (xor-assoc a c (bitXor b d))
-
--- what is added twice is gone
-pub xor-twice : (a b : ℕ) → bitXor (bitXor a b) b ≡ a
-xor-twice a b = xor-assoc a b b ∙ ap (λ (x : ℕ). bitXor a x) (xor-self b) ∙ xor-zero-r a
 
 -- bits moved up
 pub xor-shl : (k a b : ℕ) → bitXor (a * 2 ^ k) (b * 2 ^ k) ≡ bitXor a b * 2 ^ k

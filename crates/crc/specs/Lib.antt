@@ -1,3 +1,4 @@
 pub mod Figure
-pub mod Register
-pub mod Table
+pub mod Promises
+pub mod Claims
+pub mod Steps

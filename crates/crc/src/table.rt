@@ -1,7 +1,7 @@
 // The table of CRC_32. A `match` on a byte becomes read-only data.
 ghost use mathlib.Core.Path.{_≡_};
-ghost use Rattle.crc.specs.Table.{entryOf};
-ghost use Rattle.crc.specs.Register.{turnOf};
+ghost use Rattle.crc.specs.Steps.Table.{entryOf};
+ghost use Rattle.crc.specs.Steps.Register.{turnOf};
 
 // What one turn without input makes of the register.
 fn turn(r: u32) -> u32

@@ -1,6 +1,6 @@
 -- What a packet that was read brings: its reading is what the definitions take from its bytes, and its payload is at most 184 of them.
 -- Assumes nothing.
-use mathlib.Core.Path.{_≡_, refl, sym, _∙_, ap, ap₂}
+use mathlib.Core.Path.{_≡_, sym, _∙_, ap}
 use mathlib.Core.Bool.{Bool}
 use mathlib.Core.List.{List}
 use Prim.Native.Nat.{ℕ, _-_, _≤_}
@@ -11,14 +11,13 @@ use Rattle.rules.specs.Answer.{given, refused}
 use Rattle.rules.specs.Refusal.{Silent}
 use Rattle.rules.proofs.Answer.{given-apart, given-same}
 use Rattle.rules.proofs.Refusal.{none}
-use Rattle.packet.specs.Accepted.{Accepted}
-use Rattle.packet.specs.Packet.{Contents, readPacket, packetRefusals, toldPacket}
-use Rattle.packet.specs.Payload.{startAfter, startOf, payloadStart}
-use Rattle.packet.specs.Perhaps.{Perhaps, there, absent}
+use Rattle.packet.specs.Packet.{Contents, contents, readPacket, packetRefusals, toldPacket}
+use Rattle.packet.specs.Payload.{startAfter, startOf}
+use Rattle.rules.specs.Perhaps.{Perhaps, there, absent}
 use Rattle.packet.specs.declared.Packet as packets
 use Rattle.packet.proofs.Accepted.{accepted}
-use Rattle.gather.specs.Rule.{Packet, leavesNone}
-use Rattle.driver.specs.Packet.{contents, payloadOf}
+use Rattle.gather.specs.Rule.{Packet}
+use Rattle.driver.specs.Packet.{payloadOf}
 
 at-least : (size : Perhaps ℕ) → 4 ≤ startAfter size
 at-least absent = omega arith
@@ -57,6 +56,9 @@ module _ (b : List ℕ) (p : packets.Packet) (e : readPacket b ≡ given (toldPa
       let first = at-least (toldPacket p .field .size) in
       let l = long in
       rw (part-payload, ap (λ (c : Contents). drop (startAfter (c .field .size)) b) read-same) (simp length-drop (omega arith))
+
+  pub counter-few : toldPacket p .counter ≤ 15
+  counter-few = let few = accepted b (toldPacket p) e .counter in omega arith
 
 -- a packet is its counter, its unit start and its payload
 pub packet-same : (counter counter′ : ℕ) (start start′ : Bool) (payload payload′ : List ℕ) → counter ≡ counter′ → start ≡ start′ → payload ≡ payload′

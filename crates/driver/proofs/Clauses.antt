@@ -1,18 +1,17 @@
 -- What a sound state tells, clause by clause, and what makes a state sound.
 -- Assumes nothing.
 use mathlib.Core.Path.{_≡_, refl, sym, _∙_, ap}
-use mathlib.Core.Bool.{Bool, true, false, cond, not, _&&_, false≢true}
+use mathlib.Core.Bool.{Bool, true, false, cond, not, _&&_}
 use mathlib.Core.List.{List}
-use Prim.Native.Nat.{ℕ, _+_, _≤_, _<_}
+use Prim.Native.Nat.{ℕ, _≤_, _<_}
 use native.Mathlib.Nat.{zero-add}
 use native.Mathlib.Omega.{arith}
 use borrow.Author.Tests.{leb-true, le-leb, not-true, eqb-false}
-use native.Mathlib.Decide.{decLt}
 use lib.Dec.{leb, ltb, eqb}
-use lib.ListN.{length, getD, List·getD-eq-default}
+use lib.ListN.{length, getD}
 use Rattle.rules.specs.Walk.{all, apart, count}
-use Rattle.rules.proofs.Test.{both-true, true-both}
-use Rattle.rules.proofs.Walk.{count-le, all-at}
+use Rattle.rules.proofs.Test.{both-true}
+use Rattle.rules.proofs.Walk.{count-le, all-at, passes-inside}
 use Rattle.gather.specs.Memory.{soundMarks}
 use Rattle.driver.specs.State.{standsOn, freeArea, freeFilter, isOpen, isUsed}
 use Rattle.driver.specs.Sound.{sound, soundArea, isZeroArea, soundFilter, soundNext, samePid, sameNumber, counted}
@@ -92,14 +91,7 @@ open-stands s k j h o =
 
 -- and a used area is one of the list
 pub used-inside : (areas : List Area) (i : ℕ) → isUsed (getD areas i freeArea) ≡ true → i < length areas
-used-inside areas i u = go (decLt i (length areas))
-  where
-    go : Dec (i < length areas) → i < length areas
-    go (yes h) = h
-    go (no n) = absurd (false≢true (ap isUsed (sym (List·getD-eq-default areas freeArea (not-lt n))) ∙ u))
-      where
-        not-lt : (i < length areas → ⊥) → length areas ≤ i
-        not-lt m = omega arith
+used-inside areas i u = passes-inside isUsed areas i freeArea refl u
 
 pub used-some : (a : Area) → isUsed a ≡ true → 0 < a .users
 used-some a u = let n = eqb-false (a .users) 0 (not-true (eqb (a .users) 0) u) in omega arith

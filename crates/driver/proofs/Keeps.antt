@@ -12,17 +12,19 @@ use lib.Seq.{getD-set-other}
 use Rattle.rules.proofs.Test.{true-both}
 use Rattle.rules.proofs.Walk.{all-at, all-of, all-set, apart-set, find-passes}
 use Rattle.rules.proofs.Write.{length-put}
+use Rattle.packet.specs.Packet.{contents}
 use Rattle.gather.specs.Rule.{Outcome}
-use Rattle.gather.specs.Memory.{soundMarks, bytesAt, stateOf}
+use Rattle.gather.specs.Memory.{soundMarks, stateOf}
 use Rattle.gather.proofs.Laws.{rule-keeps}
 use Rattle.gather.proofs.Stored.{house, stays-sound}
 use Rattle.driver.specs.State.{fresh, isUsed, isOpen, isFree, hasPid, areaOf, baseOf, freePlaceOf, placeOf, freeArea, freeFilter}
 use Rattle.driver.specs.Sound.{sound, soundArea, soundFilter, isZeroArea, samePid}
 use Rattle.driver.specs.Open.{areaFor, opened, openOf}
-use Rattle.driver.specs.Close.{closed, closeOf}
+use Rattle.driver.specs.Close.{withoutFilter, closeOf}
 use Rattle.rules.specs.Answer.{Answer, refused, given}
-use Rattle.driver.specs.Packet.{After, Said, unwanted, still, contents, pidOf, payloadOf, outcome, marked, taken, packetOf}
+use Rattle.driver.specs.Packet.{Said, unwanted, still, pidOf, payloadOf, outcome, marked, putBack, packetOf}
 use Rattle.driver.specs.declared.Area.{Area}
+use Rattle.driver.specs.Claims.{OnlyArea}
 use Rattle.driver.specs.declared.State.{State}
 use Rattle.driver.proofs.Tally.{counted-all}
 use Rattle.driver.proofs.Clauses.{Clauses, sound-tells, sound-says, users-are, used-sound}
@@ -39,18 +41,18 @@ fresh-sound = refl
 -- ---- open and close
 pub opens-clauses : (s : State) (pid : ℕ) → Opens s pid → Clauses (opened s pid)
 opens-clauses s pid o =
-    ko.opened-clauses s pid (areaFor pid (s .areas)) (freePlaceOf (s .filters)) (sound-tells s (o .fine)) (o .low) (o .more) (ko.taken pid (s .areas)) (o .area) (o .place)
+    ko.opened-clauses s pid (areaFor pid (s .areas)) (freePlaceOf (s .filters)) (sound-tells s (o .fine)) (o .low) (o .more) (ko.for-pid pid (s .areas)) (o .area) (o .place)
     (find-passes isFree (s .filters) freeFilter (o .place))
 
 pub open-sound : (s : State) (pid : ℕ) → sound s ≡ true → sound (openOf s pid .state) ≡ true
 open-sound s pid e = open-ind s pid (λ o. sound (o .state) ≡ true) (λ n a b. e) (λ o. sound-says (opened s pid) (opens-clauses s pid o))
 
-pub closes-clauses : (s : State) (number : ℕ) → Closes s number → Clauses (closed s (placeOf number (s .filters)))
+pub closes-clauses : (s : State) (number : ℕ) → Closes s number → Clauses (withoutFilter s (placeOf number (s .filters)))
 closes-clauses s number c = closed-clauses s (placeOf number (s .filters)) (sound-tells s (c .fine)) (c .place) (found-place number (s .filters) (c .place) .0)
 
 pub close-sound : (s : State) (number : ℕ) → sound s ≡ true → sound (closeOf s number .state) ≡ true
 close-sound s number e =
-    close-ind s number (λ o. sound (o .state) ≡ true) (λ n a b. e) (λ c. sound-says (closed s (placeOf number (s .filters))) (closes-clauses s number c))
+    close-ind s number (λ o. sound (o .state) ≡ true) (λ n a b. e) (λ c. sound-says (withoutFilter s (placeOf number (s .filters))) (closes-clauses s number c))
 
 -- ---- packet
 module _ (s : State) (p store out : List ℕ) (eight : length (s .areas) ≡ 8) (h : Handles s p store out) where
@@ -91,7 +93,7 @@ module _ (s : State) (p store out : List ℕ) (eight : length (s .areas) ≡ 8) 
       (stays-sound (area .marks) (contents p .counter) (contents p .unitStart) (payloadOf p) store (baseOf own) out
       (house (area .marks) (payloadOf p) store own out (own-sound .1) (h .whole) (rw eight at (h .area)) (h .short) (h .room)) (own-sound .1) (h .agrees) (h .counter))
 
-  pub handles-clauses : Clauses (taken s own result store out .state)
+  pub handles-clauses : Clauses (putBack s own result store out .state)
   handles-clauses =
       record {
         from = clauses .from;
@@ -117,15 +119,7 @@ module _ (s : State) (p store out : List ℕ) (eight : length (s .areas) ≡ 8) 
 pub packet-sound : (s : State) (p store out : List ℕ) → length (s .areas) ≡ 8 → sound s ≡ true → sound (packetOf s p store out .state) ≡ true
 packet-sound s p store out eight e =
     packet-ind s p store out (λ o. sound (o .state) ≡ true) (λ n a b. e) (λ l. e)
-    (λ h. sound-says (taken s (areaOf (pidOf p) (s .areas)) (outcome s (areaOf (pidOf p) (s .areas)) p store) store out .state) (handles-clauses s p store out eight h))
-
--- nothing but area i of the state and of the store has changed
-pub record OnlyArea (i : ℕ) (s : State) (store : List ℕ) (o : After) : Type 0 where
-  pub filters : o .state .filters ≡ s .filters
-  pub next : o .state .next ≡ s .next
-  pub areas : (j : ℕ) → (j ≡ i → ⊥) → getD (o .state .areas) j freeArea ≡ getD (s .areas) j freeArea
-  pub size : length (o .store) ≡ length store
-  pub store′ : (from n : ℕ) → (from + n ≤ baseOf i) ⊎ (baseOf i + 4096 ≤ from) → bytesAt n (o .store) from ≡ bytesAt n store from
+    (λ h. sound-says (putBack s (areaOf (pidOf p) (s .areas)) (outcome s (areaOf (pidOf p) (s .areas)) p store) store out .state) (handles-clauses s p store out eight h))
 
 -- "No packet of another PID .. changes it": a packet call changes at most its own PID's area, in the state and in the store
 pub packet-own-area : (s : State) (p store out : List ℕ) → length (s .areas) ≡ 8 → OnlyArea (areaOf (pidOf p) (s .areas)) s store (packetOf s p store out)
@@ -135,9 +129,9 @@ packet-own-area s p store out eight = packet-ind s p store out (OnlyArea own s s
     own = areaOf (pidOf p) (s .areas)
 
     same : (a : Answer Said) → OnlyArea (areaOf (pidOf p) (s .areas)) s store (still s store out a)
-    same a = record { filters = refl; next = refl; areas = λ j n. refl; size = refl; store′ = λ from n b. refl }
+    same a = record { filters = refl; next = refl; areas = λ j n. refl; size = refl; elsewhere = λ from n b. refl }
 
-    on : Handles s p store out → OnlyArea (areaOf (pidOf p) (s .areas)) s store (taken s (areaOf (pidOf p) (s .areas)) (outcome s (areaOf (pidOf p) (s .areas)) p store) store out)
+    on : Handles s p store out → OnlyArea (areaOf (pidOf p) (s .areas)) s store (putBack s (areaOf (pidOf p) (s .areas)) (outcome s (areaOf (pidOf p) (s .areas)) p store) store out)
     on h =
         let i = areaOf (pidOf p) (s .areas) in
         let o = outcome s i p store in
@@ -148,7 +142,7 @@ packet-own-area s p store out eight = packet-ind s p store out (OnlyArea own s s
           next = refl;
           areas = λ j n. getD-set-other (s .areas) i j (marked (getD (s .areas) i freeArea) o) freeArea n;
           size = length-put store (baseOf i) (o .next .held) inside;
-          store′ = λ from n b. part-apart store (baseOf i) (o .next .held) inside 0 from n (outside (baseOf i) (length (o .next .held)) from n fits b);
+          elsewhere = λ from n b. part-apart store (baseOf i) (o .next .held) inside 0 from n (outside (baseOf i) (length (o .next .held)) from n fits b);
         }
       where
         outside : (base m from n : ℕ) → m ≤ 4095 → (from + n ≤ base) ⊎ (base + 4096 ≤ from) → (from + n ≤ base) ⊎ (base + m ≤ from)

@@ -3,20 +3,19 @@
 use mathlib.Core.Path.{_≡_, refl, sym, _∙_, ap, ap₂}
 use mathlib.Core.Bool.{Bool, true, false, cond, not, _&&_, false≢true}
 use mathlib.Core.List.{List}
-use Prim.Native.Nat.{ℕ, _+_, _-_, _≤_, _<_}
+use Prim.Native.Nat.{ℕ, _+_, _-_, _<_}
 use native.Mathlib.Decide.{ℕ-discrete}
 use native.Mathlib.Omega.{arith}
-use borrow.Author.Tests.{ltb-true, not-true, not-false, eqb-true, eqb-false, eq-eqb, ne-eqb}
-use lib.Dec.{leb, ltb, eqb}
+use borrow.Author.Tests.{eq-eqb, ne-eqb}
+use lib.Dec.{ltb, eqb}
 use lib.ListN.{length, getD, set, length-set}
 use lib.Seq.{getD-set-same, getD-set-other}
-use Rattle.rules.specs.Walk.{all, apart, count}
+use Rattle.rules.specs.Walk.{count}
 use Rattle.rules.proofs.Test.{both-true, true-both}
 use Rattle.rules.proofs.Walk.{all-at, all-of, all-set, apart-set, total-set}
-use Rattle.gather.specs.Memory.{soundMarks}
 use Rattle.driver.specs.State.{isUsed, isOpen, standsOn, freeArea, freeFilter, hasPid}
-use Rattle.driver.specs.Sound.{soundArea, soundFilter, isZeroArea, samePid, sameNumber, counted}
-use Rattle.driver.specs.Close.{left, areaAt, closed}
+use Rattle.driver.specs.Sound.{soundArea, soundFilter, samePid, sameNumber}
+use Rattle.driver.specs.Close.{left, areaAt, withoutFilter}
 use Rattle.driver.specs.declared.Area.{Area}
 use Rattle.driver.specs.declared.Filter.{Filter}
 use Rattle.driver.specs.declared.State.{State}
@@ -153,7 +152,7 @@ module _ (s : State) (p : ℕ) (k : Clauses s) (hp : p < length (s .filters)) (o
           sound-before : soundFilter (s .next) (s .areas) (getD (set (s .filters) p freeFilter) j freeFilter) ≡ true
           sound-before = ap (soundFilter (s .next) (s .areas)) same ∙ all-at (soundFilter (s .next) (s .areas)) (s .filters) freeFilter (k .filters) j h
 
-  pub closed-clauses : Clauses (closed s p)
+  pub closed-clauses : Clauses (withoutFilter s p)
   closed-clauses =
       record {
         from = k .from;

@@ -3,21 +3,19 @@
 use mathlib.Core.Path.{_≡_, refl, sym, _∙_, ap, ap₂}
 use mathlib.Core.Bool.{Bool, true, false, cond, not, _&&_, false≢true}
 use mathlib.Core.List.{List}
-use mathlib.Core.Logic.{_⊎_, inl, inr, ⊎-elim}
 use Prim.Native.Nat.{ℕ, _+_, _≤_, _<_}
 use native.Mathlib.Decide.{ℕ-discrete, decLt}
 use native.Mathlib.Omega.{arith}
-use borrow.Author.Tests.{leb-true, le-leb, ltb-true, lt-ltb, ltb-false, le-ltb, not-true, not-false, eqb-true, eqb-false, eq-eqb, ne-eqb}
-use lib.Dec.{leb, ltb, eqb}
+use borrow.Author.Tests.{le-leb, ltb-true, lt-ltb, ltb-false, not-false, eqb-true, eqb-false, eq-eqb, ne-eqb}
+use lib.Dec.{ltb, eqb}
 use lib.ListN.{length, getD, set, length-set}
 use lib.Seq.{getD-set-same, getD-set-other}
-use Rattle.rules.specs.Walk.{all, apart, count, find}
+use Rattle.rules.specs.Walk.{apart, count}
 use Rattle.rules.proofs.Test.{both-true, true-both}
-use Rattle.rules.proofs.Walk.{all-at, all-of, all-set, apart-at, apart-set, find-le, find-passes, find-first, find-none, total-set}
-use Rattle.gather.specs.Memory.{soundMarks}
-use Rattle.driver.specs.State.{isUsed, isOpen, isFree, standsOn, freeArea, freeFilter, hasPid, areaOf, freeAreaOf, freePlaceOf}
-use Rattle.driver.specs.Sound.{soundArea, soundFilter, isZeroArea, samePid, sameNumber, counted}
-use Rattle.driver.specs.Open.{areaFor, isHeld, joined, withFilter, opened}
+use Rattle.rules.proofs.Walk.{all-at, all-of, all-set, apart-at, apart-set, find-passes, find-first, total-set}
+use Rattle.driver.specs.State.{isUsed, isOpen, isFree, standsOn, freeArea, freeFilter, hasPid, areaOf, freeAreaOf}
+use Rattle.driver.specs.Sound.{soundArea, soundFilter, samePid, sameNumber}
+use Rattle.driver.specs.Open.{areaFor, joined, withFilter}
 use Rattle.driver.specs.declared.Area.{Area}
 use Rattle.driver.specs.declared.Filter.{Filter}
 use Rattle.driver.specs.declared.State.{State}
@@ -48,19 +46,19 @@ only-one pid areas e i j hi hj p q = go (decLt i j) (decLt j i)
 
 -- ---- the area that an open takes
 -- the PID's own area, or the lowest free one
-pub data Taken (pid : ℕ) (areas : List Area) : ℕ → Type 0 where
-  own : areaOf pid areas < length areas → Taken pid areas (areaOf pid areas)
-  new : length areas ≤ areaOf pid areas → Taken pid areas (freeAreaOf areas)
+pub data ForPid (pid : ℕ) (areas : List Area) : ℕ → Type 0 where
+  own : areaOf pid areas < length areas → ForPid pid areas (areaOf pid areas)
+  new : length areas ≤ areaOf pid areas → ForPid pid areas (freeAreaOf areas)
 
-pub taken : (pid : ℕ) (areas : List Area) → Taken pid areas (areaFor pid areas)
-taken pid areas = go (ltb (areaOf pid areas) (length areas)) refl
+pub for-pid : (pid : ℕ) (areas : List Area) → ForPid pid areas (areaFor pid areas)
+for-pid pid areas = go (ltb (areaOf pid areas) (length areas)) refl
   where
-    go : (b : Bool) → ltb (areaOf pid areas) (length areas) ≡ b → Taken pid areas (cond b (areaOf pid areas) (freeAreaOf areas))
+    go : (b : Bool) → ltb (areaOf pid areas) (length areas) ≡ b → ForPid pid areas (cond b (areaOf pid areas) (freeAreaOf areas))
     go true e = own (ltb-true (areaOf pid areas) (length areas) e)
     go false e = new (ltb-false (areaOf pid areas) (length areas) e)
 
 -- no other area has the PID
-pub others : (pid : ℕ) (areas : List Area) {i : ℕ} → Taken pid areas i → apart samePid areas ≡ true
+pub others : (pid : ℕ) (areas : List Area) {i : ℕ} → ForPid pid areas i → apart samePid areas ≡ true
     → (j : ℕ) → j < length areas → (j ≡ i → ⊥) → hasPid pid (getD areas j freeArea) ≡ false
 others pid areas (own l) e j h n = go (hasPid pid (getD areas j freeArea)) refl
   where
@@ -88,7 +86,7 @@ lonely x b e = go (isUsed x) (isUsed b) e
     go true true e = (ne-eqb (x .pid .0) (b .pid .0) (λ q. eqb-false (b .pid .0) (x .pid .0) e (sym q)), e)
 
 -- ---- the filter that an open makes
-module _ (s : State) (pid a p : ℕ) (k : Clauses s) (low : pid ≤ 0x1FFE) (more : s .next ≤ 65535) (t : Taken pid (s .areas) a)
+module _ (s : State) (pid a p : ℕ) (k : Clauses s) (low : pid ≤ 0x1FFE) (more : s .next ≤ 65535) (t : ForPid pid (s .areas) a)
     (ha : a < length (s .areas)) (hp : p < length (s .filters)) (free : isFree (getD (s .filters) p freeFilter) ≡ true) where
   abbrev area : Area
   area = joined pid (getD (s .areas) a freeArea)

@@ -9,5 +9,6 @@ pub mod Order
 pub mod Found
 pub mod Ways
 pub mod Keeps
+pub mod Limits
 pub mod Stars
-pub mod Outcomes
+pub mod Claims

@@ -1,7 +1,7 @@
 -- The packet call's order: each of its first tests that applies decides, and past them the packet's area does.
 -- Assumes nothing.
-use mathlib.Core.Path.{_≡_, refl, sym, _∙_, ap}
-use mathlib.Core.Bool.{Bool, true, false, cond, not}
+use mathlib.Core.Path.{_≡_}
+use mathlib.Core.Bool.{true, false, not}
 use mathlib.Core.List.{List}
 use Prim.Native.Nat.{ℕ, _≤_, _<_}
 use borrow.Author.Tests.{le-leb, lt-leb, ltb-false, eqb-true, not-false}
@@ -9,13 +9,13 @@ use lib.Dec.{eqb, ltb}
 use lib.ListN.{length}
 use Rattle.rules.specs.Answer.{refused, given}
 use Rattle.rules.specs.Refusal.{Silent}
+use Rattle.rules.proofs.Judged.{refused-by}
 use Rattle.rules.proofs.Refusal as table
 use Rattle.rules.proofs.Test.{neither}
-use Rattle.packet.specs.Packet.{readPacket, packetRefusals}
-use Rattle.packet.proofs.Exact.{refused-exactly}
+use Rattle.packet.specs.Packet.{contents, readPacket, packetRefusals}
 use Rattle.driver.specs.State.{areaOf}
 use Rattle.driver.specs.Sound.{sound}
-use Rattle.driver.specs.Packet.{After, packetOf, still, unwanted, isWrongSize, pidOf, afterReading, afterTests}
+use Rattle.driver.specs.Packet.{packetOf, still, unwanted, isWrongSize, pidOf, afterReading, afterTests}
 use Rattle.driver.specs.declared.State.{State}
 
 module _ (s : State) (p store out : List ℕ) where
@@ -31,7 +31,7 @@ module _ (s : State) (p store out : List ℕ) where
   unfolding packetOf
   packet-refused n e w r =
       rw (e, w)
-      (table.refused (λ n. still s store out (refused n)) (afterReading s (areaOf (pidOf p) (s .areas)) p store out) n (packetRefusals p) (refused-exactly p n .0 r))
+      (table.refused (λ n. still s store out (refused n)) (afterReading s (areaOf (pidOf p) (s .areas)) p store out) n (packetRefusals p) (refused-by (packetRefusals p) (contents p) n r))
 
   pub packet-read : sound s ≡ true → isWrongSize store out ≡ false → Silent (packetRefusals p)
       → packetOf s p store out ≡ afterReading s (areaOf (pidOf p) (s .areas)) p store out

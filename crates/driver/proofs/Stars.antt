@@ -1,23 +1,50 @@
 -- The ★ cases about areas and pointers hold: antt computes each, and a refused packet leaves store and output alone whatever they hold.
 -- Assumes nothing.
-use mathlib.Core.Path.{_≡_, refl, _∙_}
-use mathlib.Core.Bool.{false}
+use mathlib.Core.Path.{_≡_, refl}
+use mathlib.Core.Bool.{true, false}
 use mathlib.Core.List.{List, [], _∷_}
 use Prim.Native.Nat.{ℕ, _≤_}
-use lib.ListN.{length}
-use borrow.Author.Tests.{eq-eqb, le-ltb}
-use Rattle.rules.specs.Answer.{refused}
-use Rattle.rules.specs.Walk.{Every}
-use Rattle.driver.specs.State.{fresh}
+use lib.Dec.{leb, eqb}
+use lib.ListN.{length, getD, length-append}
+use Rattle.driver.specs.declared.Area.{Area}
+use native.Mathlib.Omega.{arith}
+use borrow.Author.Tests.{eq-eqb, le-ltb, le-leb, lt-leb, ltb-true, not-true}
+use Rattle.rules.specs.Walk.{all, Every}
+use Rattle.rules.proofs.Walk.{find-none, all-at}
+use Rattle.rules.proofs.Write.{put-nil}
+use Rattle.gather.proofs.Stars as gathering
+use Rattle.driver.specs.State.{isUsed, areaOf, freePlaceOf, freeArea}
 use Rattle.driver.specs.Sound.{sound}
-use Rattle.driver.specs.Open.{openOf}
-use Rattle.driver.specs.Packet.{packetOf, still, isWrongSize}
-use Rattle.driver.specs.Stars.{Right, cases, openAll}
+use Rattle.driver.specs.Open.{isHeld, areaFor, openOf}
+use Rattle.driver.specs.Packet.{packetOf, isWrongSize}
+use Rattle.driver.specs.Stars.{Right, cases, eightTaken, lastByteHeld}
 
 -- the sizes are right
 sizes : (store out : List ℕ) → length store ≡ 32768 → 4278 ≤ length out → isWrongSize store out ≡ false
 sizes store out l o = rw (eq-eqb (length store) 32768 l, le-ltb (length out) 4278 o)
 
+-- where all areas are taken an open finds none for a PID that has none
+none-free : (pid : ℕ) (areas : List Area) → all isUsed areas ≡ true → isHeld pid areas ≡ false → leb (length areas) (areaFor pid areas) ≡ true
+none-free pid areas used none =
+    let full = find-none (λ (a : Area). eqb (a .users) 0) areas freeArea (λ i b. not-true (eqb (getD areas i freeArea .users) 0) (all-at isUsed areas freeArea used i b)) in
+    rw (none, full) (le-leb (length areas) (length areas) (omega arith))
+
+own-found : (pid : ℕ) (areas : List Area) → isHeld pid areas ≡ true → leb (length areas) (areaFor pid areas) ≡ false
+own-found pid areas held = rw held (lt-leb (length areas) (areaOf pid areas) (ltb-true (areaOf pid areas) (length areas) held))
+
+eight-taken : Right eightTaken
+unfolding openOf
+eight-taken s pid fine used low more place = (
+  λ none. rw (fine, le-ltb 0x1FFE pid low, le-ltb 65535 (s .next) more, lt-leb (length (s .filters)) (freePlaceOf (s .filters)) place, none-free pid (s .areas) used none),
+  λ held. rw (fine, le-ltb 0x1FFE pid low, le-ltb 65535 (s .next) more, lt-leb (length (s .filters)) (freePlaceOf (s .filters)) place, own-found pid (s .areas) held),
+)
+
+last-byte : Right lastByteHeld
+unfolding sound openOf packetOf
+last-byte bytes store out e l o =
+    let held = gathering.stars .1 .1 .0 0 bytes e in
+    rw (sizes store out l o, length-append bytes (0x80 ∷ []), e, held .1, put-nil out 0)
+
 pub stars : Every Right cases
 unfolding sound openOf packetOf
-stars = (refl, (refl, (λ store out l o. rw (sizes store out l o), (λ store out l o. rw (sizes store out l o), tt))))
+stars = (refl, (refl, (eight-taken, (λ store out l o. rw (sizes store out l o), (λ store out l o. rw (sizes store out l o), (last-byte, tt))))))

@@ -7,17 +7,17 @@ use Prim.Native.Nat.{ℕ, zero, suc, _+_, _%_, _≤_, _<_, suc-le-suc, zero-le}
 use native.Mathlib.Nat.{mod-lt, zero-add, add-zero, add-suc, suc-add, not-suc-le-zero, le-of-suc-le-suc}
 use native.Mathlib.Numerals.{add-one}
 use native.Mathlib.Omega.{arith}
-use borrow.Author.Tests.{eq-eqb, ne-eqb, eqb-true, eqb-false, ltb-true, lt-ltb, not-true, not-false}
+use borrow.Author.Tests.{eq-eqb, ne-eqb, eqb-true, ltb-true, lt-ltb}
 use native.Mathlib.Decide.{ℕ-discrete, decLt}
 use lib.Dec.{eqb, ltb, lit<}
 use lib.ListN.{length, drop, getD, set, replicate, getD-replicate, length-set, drop-of-length-le, List·getD-eq-default}
 use lib.Seq.{drop-cons, getD-set-same, getD-set-other}
-use Rattle.rules.specs.Walk.{all, apart, count, total}
+use Rattle.rules.specs.Walk.{all, apart, count}
 use Rattle.rules.proofs.Test.{both-true, true-both, neither}
 use Rattle.rules.proofs.Walk.{all-at, all-of, all-goes, all-ends, apart-of, total-turn, total-at, count-le}
 use Rattle.driver.specs.State.{isOpen, isUsed, standsOn, freeArea, freeFilter}
 use Rattle.driver.specs.Sound.{soundFilter, counted, sameNumber}
-use Rattle.driver.specs.Tally.{agree, fitsPlace, countedIn, metIn, isMet, classOf}
+use Rattle.driver.specs.Steps.Tally.{agree, fitsPlace, countedIn, metIn, isMet, classOf}
 use Rattle.driver.specs.declared.Area.{Area}
 use Rattle.driver.specs.declared.Filter.{Filter}
 

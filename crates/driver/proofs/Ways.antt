@@ -1,7 +1,7 @@
 -- The ways of a call: a refusal leaves everything as it was, and an accepted call passed every row of its table.
 -- Assumes nothing.
-use mathlib.Core.Path.{_≡_, refl, sym}
-use mathlib.Core.Bool.{Bool, true, false, cond, not, _||_, false≢true}
+use mathlib.Core.Path.{_≡_, refl}
+use mathlib.Core.Bool.{Bool, true, false, cond, not}
 use mathlib.Core.List.{List}
 use Prim.Native.Nat.{ℕ, _/_, _^_, _≤_, _<_}
 use native.Mathlib.Nat.{mod-lt}
@@ -12,15 +12,15 @@ use lib.ListN.{length, getD, length-drop}
 use Rattle.rules.proofs.Test.{neither}
 use Rattle.rules.specs.Answer.{refused, given}
 use Rattle.rules.specs.Refusal.{Silent}
-use Rattle.packet.specs.Perhaps.{Perhaps, there, absent}
-use Rattle.packet.specs.Packet.{headerOf}
+use Rattle.rules.specs.Perhaps.{Perhaps, there, absent}
+use Rattle.packet.specs.Packet.{headerOf, contents}
 use Rattle.packet.specs.Payload.{startAfter}
 use Rattle.gather.specs.Memory.{contradictsOf}
 use Rattle.driver.specs.State.{areaOf, baseOf, freeArea, freePlaceOf, placeOf}
 use Rattle.driver.specs.Sound.{sound}
 use Rattle.driver.specs.Open as opening
 use Rattle.driver.specs.Close as closing
-use Rattle.driver.specs.Packet.{After, still, unwanted, contents, pidOf, payloadOf, firstRefusals, lastRefusals, outcome, taken, afterTests, afterReading, packetOf}
+use Rattle.driver.specs.Packet.{After, still, unwanted, pidOf, payloadOf, firstRefusals, lastRefusals, outcome, putBack, afterTests, afterReading, packetOf}
 use Rattle.driver.specs.declared.State.{State}
 use Rattle.rules.proofs.Judged.{judge-ind}
 
@@ -66,7 +66,7 @@ pub record Closes (s : State) (number : ℕ) : Type 0 where
 
 module _ (s : State) (number : ℕ) (P : closing.Outcome → Type 0) where
   pub close-ind : ((n : ℕ) → (n ≡ 1 → sound s ≡ false) → (n ≡ 9 → ⊥) → P (record { answer = refused n; state = s }))
-      → (Closes s number → P (record { answer = given tt; state = closing.closed s (placeOf number (s .filters)) }))
+      → (Closes s number → P (record { answer = given tt; state = closing.withoutFilter s (placeOf number (s .filters)) }))
       → P (closing.closeOf s number)
   unfolding closing.closeOf
   close-ind refuses on =
@@ -107,7 +107,7 @@ module _ (s : State) (p store out : List ℕ) (P : After → Type 0) where
       ((n : ℕ) → (n ≡ 1 → sound s ≡ false)
       → (n ≡ 9 → (own < length (s .areas)) × (contradictsOf (getD (s .areas) own freeArea .marks .held) store (baseOf own) ≡ true)) → P (still s store out (refused n)))
       → (length (s .areas) ≤ own → P (still s store out (given unwanted)))
-      → (Handles s p store out → P (taken s own (outcome s own p store) store out))
+      → (Handles s p store out → P (putBack s own (outcome s own p store) store out))
       → P (packetOf s p store out)
   unfolding packetOf
   packet-ind refuses none on =
@@ -142,7 +142,7 @@ module _ (s : State) (p store out : List ℕ) (P : After → Type 0) where
           → P (cond b (still s store out (given unwanted)) (afterTests s own p store out))
       wants rows true e = none (leb-true (length (s .areas)) own e)
       wants rows false e =
-          judge-ind (λ n. still s store out (refused n)) P (lastRefusals s own p store) (taken s own (outcome s own p store) store out) (
+          judge-ind (λ n. still s store out (refused n)) P (lastRefusals s own p store) (putBack s own (outcome s own p store) store out) (
             λ q. refuses 9 (λ z. absurd (omega arith)) (λ z. (leb-false (length (s .areas)) own e, q)),
             (λ q. other 10 (omega arith) (omega arith), (λ q. other 11 (omega arith) (omega arith), tt)),
           )

@@ -1,5 +1,5 @@
 -- Document 01, "Filters and areas": close.
-use mathlib.Core.Bool.{Bool, cond, not}
+use mathlib.Core.Bool.{cond, not}
 use mathlib.Core.List.{List, [], _∷_}
 use Prim.Native.Nat.{ℕ, _-_}
 use lib.Dec.{leb, eqb}
@@ -40,8 +40,8 @@ abbrev pub areaAt : State → ℕ → ℕ
 areaAt s place = getD (s .filters) place freeFilter .area
 
 -- "Close frees the place"
-abbrev pub closed : State → ℕ → State
-closed s place =
+abbrev pub withoutFilter : State → ℕ → State
+withoutFilter s place =
     record {
       areas = set (s .areas) (areaAt s place) (left (getD (s .areas) (areaAt s place) freeArea));
       filters = set (s .filters) place freeFilter;
@@ -51,4 +51,4 @@ closed s place =
 unfoldable pub closeOf : State → ℕ → Outcome
 closeOf s number =
     judge (λ n. record { answer = refused n; state = s }) (closeRefusals s number)
-    (record { answer = given tt; state = closed s (placeOf number (s .filters)) })
+    (record { answer = given tt; state = withoutFilter s (placeOf number (s .filters)) })

@@ -1,7 +1,9 @@
 pub mod State
 pub mod Sound
-pub mod Tally
 pub mod Open
 pub mod Close
 pub mod Packet
+pub mod Promises
+pub mod Claims
 pub mod Stars
+pub mod Steps

@@ -1,12 +1,12 @@
 -- Document 01, "Filters and areas": open.
-use mathlib.Core.Bool.{Bool, cond, not, _&&_}
+use mathlib.Core.Bool.{Bool, cond, not}
 use mathlib.Core.List.{List, [], _∷_}
 use Prim.Native.Nat.{ℕ, _+_}
 use lib.Dec.{ltb, leb}
 use lib.ListN.{length, getD, set}
 use Rattle.rules.specs.Answer.{Answer, refused, given}
 use Rattle.rules.specs.Refusal.{Row, judge, _when_}
-use Rattle.driver.specs.State.{areaOf, freeAreaOf, freePlaceOf, freeArea, noMarks}
+use Rattle.driver.specs.State.{areaOf, freeAreaOf, freePlaceOf, freeArea}
 use Rattle.driver.specs.Sound.{sound}
 use Rattle.driver.specs.declared.Area.{Area}
 use Rattle.driver.specs.declared.State.{State}

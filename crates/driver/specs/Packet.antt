@@ -1,18 +1,17 @@
 -- Document 01, "Refusal numbers" (the packet call's order) and "From payload to sections": the packet call.
 use mathlib.Core.Bool.{Bool, true, false, cond, not, _||_}
-use mathlib.Core.List.{List, [], _∷_, _++_}
-use mathlib.Core.Path.{_≡_}
-use Prim.Native.Nat.{ℕ, _+_, _*_, _≤_}
+use mathlib.Core.List.{List, [], _∷_}
+use Prim.Native.Nat.{ℕ}
 use lib.Dec.{ltb, leb, eqb}
 use lib.ListN.{length, getD, set, drop}
 use Rattle.rules.specs.Answer.{Answer, refused, given}
 use Rattle.rules.specs.Refusal.{Row, judge, _when_}
+use Rattle.rules.specs.Set.{setOf}
 use Rattle.rules.specs.Write.{put}
-use Rattle.packet.specs.Packet.{Contents, packetRefusals, contentsOf, headerOf, controlOf}
-use Rattle.packet.specs.Adaptation.{fieldOf}
+use Rattle.packet.specs.Packet.{packetRefusals, contents}
 use Rattle.packet.specs.Payload.{startAfter}
-use Rattle.gather.specs.Rule.{Outcome, rule, leavesNone}
-use Rattle.gather.specs.Section.{join}
+use Rattle.gather.specs.Rule.{Packet, Outcome, rule, leavesNone}
+use Rattle.gather.specs.Kind.{join}
 use Rattle.gather.specs.Memory.{stateOf, marksOf, contradictsOf}
 use Rattle.driver.specs.State.{areaOf, baseOf, freeArea, standsOn}
 use Rattle.driver.specs.Sound.{sound}
@@ -24,13 +23,26 @@ use Rattle.driver.specs.declared.Handled.{Handled}
 use Rattle.driver.specs.declared.Handling.{Handling}
 use Rattle.driver.specs.declared.Handling.the-variants as handling
 
--- what the packet call says in document 01's terms; "not wanted" has counts, marks and set 0
-pub data Said : Type 0 where
-  wanted : Report → Said
-  unwanted : Said
+-- what the packet call says in document 01's terms: whether the packet is wanted, and "their number (at most 61), their bytes, the set of filter places on the PID as 32 bits, jump, repeat, and how many sections were given up (0 to 2)"
+pub record Said : Type 0 where
+  pub wanted : Bool
+  pub sections : ℕ
+  pub bytes : ℕ
+  pub places : ℕ
+  pub jump : Bool
+  pub repeat : Bool
+  pub givenUp : ℕ
+
+-- "not wanted": "counts, marks and set 0"
+abbrev pub unwanted : Said
+unwanted = record { wanted = false; sections = 0; bytes = 0; places = 0; jump = false; repeat = false; givenUp = 0 }
+
+abbrev pub toldReport : Report → Said
+toldReport r =
+    record { wanted = true; sections = r .sections; bytes = r .bytes; places = r .places; jump = r .jump; repeat = r .repeat; givenUp = r .«given_up» }
 
 abbrev pub toldHandling : Handling → Answer Said
-toldHandling (handling.Wanted r) = given (wanted r)
+toldHandling (handling.Wanted r) = given (toldReport r)
 toldHandling handling.NotWanted = given unwanted
 toldHandling (handling.Refused n) = refused n
 
@@ -45,24 +57,19 @@ abbrev pub told : Handled → List ℕ → List ℕ → After
 told h store out = record { answer = toldHandling (h .answer); state = h .state; store = store; out = out }
 
 -- ---- what the packet brings
--- the reading of a packet that is not refused
-abbrev pub contents : List ℕ → Contents
-contents p = contentsOf (headerOf p) (fieldOf (controlOf (headerOf p)) p)
-
 abbrev pub pidOf : List ℕ → ℕ
 pidOf p = contents p .pid
 
 abbrev pub payloadOf : List ℕ → List ℕ
 payloadOf p = drop (startAfter (contents p .field .size)) p
 
--- 1 where the filter is open on area i
-abbrev pub standingOn : ℕ → Filter → ℕ
-standingOn i f = cond (standsOn i f) 1 0
+-- what it brings to the rule: its counter, its unit start and its payload
+abbrev pub packetFrom : List ℕ → Packet
+packetFrom p = record { counter = contents p .counter; start = contents p .unitStart; payload = payloadOf p }
 
--- "the set of filter places on the PID as 32 bits": the first place is the least significant bit
+-- "the set of filter places on the PID as 32 bits"
 abbrev pub placesOn : ℕ → List Filter → ℕ
-placesOn i [] = 0
-placesOn i (f ∷ fs) = standingOn i f + 2 * placesOn i fs
+placesOn i filters = setOf (standsOn i) filters
 
 -- ---- the orders
 -- "3: the store or output has the wrong size"
@@ -84,30 +91,30 @@ lastRefusals s i p store =
 -- ---- the call
 -- what the rule makes of the packet in the PID's area i
 abbrev pub outcome : State → ℕ → List ℕ → List ℕ → Outcome
-outcome s i p store =
-    rule (stateOf (getD (s .areas) i freeArea .marks) store (baseOf i))
-    (record { counter = contents p .counter; start = contents p .unitStart; payload = payloadOf p })
+outcome s i p store = rule (stateOf (getD (s .areas) i freeArea .marks) store (baseOf i)) (packetFrom p)
 
 -- the area with the rule's marks
 abbrev pub marked : Area → Outcome → Area
 marked a o = record { pid = a .pid; users = a .users; marks = marksOf (o .next) }
 
-abbrev pub report : Outcome → ℕ → Report
+-- what is said of an outcome of the rule to the filters at these places
+abbrev pub report : Outcome → ℕ → Said
 report o places =
     record {
+      wanted = true;
       sections = length (o .sections);
       bytes = length (join (o .sections));
       places = places;
       jump = o .jump;
       repeat = o .repeat;
-      «given_up» = o .givenUp;
+      givenUp = o .givenUp;
     }
 
 -- the rule's outcome put back: the area's marks, its held bytes, and the sections joined at the start of the output
-abbrev pub taken : State → ℕ → Outcome → List ℕ → List ℕ → After
-taken s i o store out =
+abbrev pub putBack : State → ℕ → Outcome → List ℕ → List ℕ → After
+putBack s i o store out =
     record {
-      answer = given (wanted (report o (placesOn i (s .filters))));
+      answer = given (report o (placesOn i (s .filters)));
       state = record { areas = set (s .areas) i (marked (getD (s .areas) i freeArea) o); filters = s .filters; next = s .next };
       store = put store (baseOf i) (o .next .held);
       out = put out 0 (join (o .sections));
@@ -119,17 +126,11 @@ still s store out answer = record { answer = answer; state = s; store = store; o
 -- "then 9, 10, 11"
 abbrev pub afterTests : State → ℕ → List ℕ → List ℕ → List ℕ → After
 afterTests s i p store out =
-    judge (λ n. still s store out (refused n)) (lastRefusals s i p store) (taken s i (outcome s i p store) store out)
+    judge (λ n. still s store out (refused n)) (lastRefusals s i p store) (putBack s i (outcome s i p store) store out)
 
 -- "then, if the PID has no area, the answer "not wanted" (counts, marks and set 0, nothing written)"
 abbrev pub afterReading : State → ℕ → List ℕ → List ℕ → List ℕ → After
 afterReading s i p store out = cond (leb (length (s .areas)) i) (still s store out (given unwanted)) (afterTests s i p store out)
-
--- what the private functions of the call may rely on once the first tests are passed
-pub record Ready (s : State) (store out : List ℕ) : Type 0 where
-  pub fine : sound s ≡ true
-  pub whole : length store ≡ 32768
-  pub room : 4278 ≤ length out
 
 unfoldable pub packetOf : State → List ℕ → List ℕ → List ℕ → After
 packetOf s p store out =

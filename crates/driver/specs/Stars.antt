@@ -1,41 +1,72 @@
 -- Document 01, "Examples": the ★ cases about areas, and about pointers that leave no byte.
 use mathlib.Core.Path.{_≡_}
+use mathlib.Core.Bool.{true, false}
 use mathlib.Core.List.{List, [], _∷_, _++_}
-use Prim.Native.Nat.{ℕ, _≤_}
-use lib.ListN.{length, replicate}
+use Prim.Native.Nat.{ℕ, _≤_, _<_}
+use lib.ListN.{length, set, replicate}
 use Rattle.rules.specs.Answer.{Answer, refused, given}
-use Rattle.driver.specs.State.{fresh}
-use Rattle.driver.specs.Open.{Place, openOf}
+use Rattle.rules.specs.Walk.{all}
+use Rattle.rules.specs.Write.{put}
+use Rattle.driver.specs.State.{fresh, isUsed, freePlaceOf}
+use Rattle.driver.specs.Sound.{sound}
+use Rattle.driver.specs.Open.{Place, isHeld, openOf}
 use Rattle.driver.specs.Packet.{packetOf, still}
 use Rattle.driver.specs.declared.State.{State}
 
 pub data Case : Type 0 where
   -- after opens on these PIDs, one after the other, an open on this one answers so
   openAfter : List ℕ → ℕ → Answer Place → Case
+  -- in every state that nothing else refuses, with all areas taken, a PID without an area is refused 15 and one that has an area isn't
+  eightTaken : Case
   -- with PID 0 open this packet is refused with this number
   packetRefused : List ℕ → ℕ → Case
+  -- with PID 0 open a packet with unit start, pointer 182 and last byte 0x80 leaves that byte held, whichever the bytes between them are
+  lastByteHeld : Case
 
 -- the state after opens on these PIDs
 abbrev pub openAll : State → List ℕ → State
 openAll s [] = s
 openAll s (pid ∷ pids) = openAll (openOf s pid .state) pids
 
+-- one filter, on PID 0
+abbrev pub zeroOpen : State
+zeroOpen = openAll fresh (0 ∷ [])
+
 -- what a case claims; a packet's for every store and output of the right size
 abbrev pub Right : Case → Type 0
 Right (openAfter pids pid answer) = openOf (openAll fresh pids) pid .answer ≡ answer
+Right eightTaken =
+    (s : State) (pid : ℕ) → sound s ≡ true → all isUsed (s .areas) ≡ true → pid ≤ 0x1FFE → s .next ≤ 65535 → freePlaceOf (s .filters) < length (s .filters)
+    → (isHeld pid (s .areas) ≡ false → openOf s pid .answer ≡ refused 15)
+    × (isHeld pid (s .areas) ≡ true → openOf s pid .answer ≡ given (record { number = s .next; place = freePlaceOf (s .filters) }))
 Right (packetRefused bytes n) =
-    (store out : List ℕ) → length store ≡ 32768 → 4278 ≤ length out
-    → packetOf (openAll fresh (0 ∷ [])) bytes store out ≡ still (openAll fresh (0 ∷ [])) store out (refused n)
+    (store out : List ℕ) → length store ≡ 32768 → 4278 ≤ length out → packetOf zeroOpen bytes store out ≡ still zeroOpen store out (refused n)
+Right lastByteHeld =
+    (bytes store out : List ℕ) → length bytes ≡ 182 → length store ≡ 32768 → 4278 ≤ length out
+    → packetOf zeroOpen (0x47 ∷ 0x40 ∷ 0x00 ∷ 0x10 ∷ 182 ∷ (bytes ++ 0x80 ∷ [])) store out
+    ≡ record {
+      answer = given (record { wanted = true; sections = 0; bytes = 0; places = 1; jump = false; repeat = false; givenUp = 0 });
+      state =
+          record {
+            areas = set (zeroOpen .areas) 0 (record { pid = record { 0 = 0 }; users = 1; marks = record { held = 1; seen = true; counter = 0 } });
+            filters = zeroOpen .filters;
+            next = zeroOpen .next;
+          };
+      store = put store 0 (0x80 ∷ []);
+      out = out;
+    }
 
 -- eight PIDs
 abbrev pub eight : List ℕ
 eight = 0 ∷ 1 ∷ 2 ∷ 3 ∷ 4 ∷ 5 ∷ 6 ∷ 7 ∷ []
 
--- "eight PIDs held: a ninth is refused 15, a second filter on a held one isn't"; "control 11, length 182, unit start: refusal 11"; "control 01, pointer 183: refusal 11"
+-- "eight PIDs held: a ninth is refused 15, a second filter on a held one isn't"; "control 11, length 182, unit start: refusal 11"; "control 01, pointer 183: refusal 11"; "pointer 182, last byte 0x80: one byte held"
 abbrev pub cases : List Case
 cases =
     openAfter eight 8 (refused 15)
     ∷ openAfter eight 3 (given (record { number = 9; place = 8 }))
+    ∷ eightTaken
     ∷ packetRefused (0x47 ∷ 0x40 ∷ 0x00 ∷ 0x30 ∷ 182 ∷ 0x00 ∷ replicate 182 0xFF) 11
     ∷ packetRefused (0x47 ∷ 0x40 ∷ 0x00 ∷ 0x10 ∷ 183 ∷ replicate 183 0x00) 11
+    ∷ lastByteHeld
     ∷ []

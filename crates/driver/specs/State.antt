@@ -1,11 +1,11 @@
 -- Document 01, "Filters and areas" and "Numbers of the house": what the state holds.
-use mathlib.Core.Bool.{Bool, false, not, _&&_}
+use mathlib.Core.Bool.{Bool, not, _&&_}
 use mathlib.Core.List.{List}
 use Prim.Native.Nat.{ℕ, _*_}
 use lib.Dec.{eqb}
 use lib.ListN.{replicate}
 use Rattle.rules.specs.Walk.{find}
-use Rattle.gather.specs.declared.Marks.{Marks}
+use Rattle.gather.specs.Memory.{noMarks}
 use Rattle.driver.specs.declared.Area.{Area}
 use Rattle.driver.specs.declared.Filter.{Filter}
 use Rattle.driver.specs.declared.State.{State}
@@ -30,9 +30,6 @@ abbrev pub standsOn : ℕ → Filter → Bool
 standsOn i f = isOpen f && eqb (f .area) i
 
 -- "records of free areas and places are all zero"
-abbrev pub noMarks : Marks
-noMarks = record { held = 0; seen = false; counter = 0 }
-
 abbrev pub freeArea : Area
 freeArea = record { pid = record { 0 = 0 }; users = 0; marks = noMarks }
 

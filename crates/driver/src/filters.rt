@@ -15,7 +15,7 @@ use crate::State;
 use crate::find::area_of;
 use crate::find::free_area;
 use gather::Marks;
-use packet::pid::Pid;
+use pid::Pid;
 
 // The PID's area, or the lowest free one.
 pub(crate) fn area_for(areas: [Area; 8], pid: u16) -> usize
@@ -90,7 +90,7 @@ fn left(area: Area) -> Area
 // The state without the filter at this place.
 pub(crate) fn without_filter(state: State, place: usize) -> State
     requires { ⌜ (place < 32) × (closing.areaAt state place < 8) × (0 < getD (state .areas) (closing.areaAt state place) freeArea .users) ⌝ }
-    ensures { λ r. ⌜ r ≡ closing.closed state place ⌝ }
+    ensures { λ r. ⌜ r ≡ closing.withoutFilter state place ⌝ }
 {
     let mut areas = state.areas;
     let mut filters = state.filters;

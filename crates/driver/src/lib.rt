@@ -17,12 +17,8 @@ use crate::wanted::unhandled;
 use crate::wanted::wanted;
 use gather::Marks;
 use packet::Reading;
-use packet::pid::Pid;
-ghost use mathlib.Core.Path.{_≡_};
-ghost use Rattle.driver.specs.State.{fresh};
-ghost use Rattle.driver.specs.Open as opening;
-ghost use Rattle.driver.specs.Close as closing;
-ghost use Rattle.driver.specs.Packet as handling;
+use pid::Pid;
+ghost use Rattle.driver.specs.Promises.{MakesFresh, OpensFilter, ClosesFilter, HandlesPacket};
 
 // An area, used where it has users: its PID, how many filters stand on it, and what the rule of gathering remembers beside the held bytes.
 pub struct Area {
@@ -87,7 +83,7 @@ pub struct Handled {
 
 // A state with nothing open: the next number is 1.
 pub fn fresh() -> State
-    ensures { λ r. ⌜ r ≡ fresh ⌝ }
+    ensures { λ r. ⌜ MakesFresh r ⌝ }
 {
     let marks = Marks {
         held: 0,
@@ -109,7 +105,7 @@ pub fn fresh() -> State
 
 // A filter on a PID: its number and place, or the first refusal that applies.
 pub fn open(state: State, pid: Pid) -> Opened
-    ensures { λ r. ⌜ opening.told r ≡ opening.openOf state (pid .0) ⌝ }
+    ensures { λ r. ⌜ OpensFilter state (pid .0) r ⌝ }
 {
     if !is_sound(state) {
         return unopened(state, 1);
@@ -141,7 +137,7 @@ pub fn open(state: State, pid: Pid) -> Opened
 
 // The filter of a number closed, or the first refusal that applies.
 pub fn close(state: State, number: u16) -> AfterClose
-    ensures { λ r. ⌜ closing.told r ≡ closing.closeOf state number ⌝ }
+    ensures { λ r. ⌜ ClosesFilter state number r ⌝ }
 {
     if !is_sound(state) {
         return unclosed(state, 1);
@@ -159,8 +155,7 @@ pub fn close(state: State, number: u16) -> AfterClose
 
 // A packet: what it brought to the filters on its PID, "not wanted", or the first refusal that applies.
 pub fn packet(state: State, bytes: &[u8], store: &mut [u8], out: &mut [u8]) -> Handled
-    ensures { λ r. ⌜ handling.told r (now (store .exit)) (now (out .exit))
-        ≡ handling.packetOf state (now (bytes .entry)) (now (store .entry)) (now (out .entry)) ⌝ }
+    ensures { λ r. ⌜ HandlesPacket state (now (bytes .entry)) (now (store .entry)) (now (out .entry)) (r, now (store .exit), now (out .exit)) ⌝ }
 {
     if !is_sound(state) {
         return unhandled(state, 1);

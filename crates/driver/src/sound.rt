@@ -1,4 +1,4 @@
-// Whether a state is sound: each clause of "Sound means", in one pass over the areas and one over the filter places.
+// Whether a state is sound: each clause of "Sound means"; users are counted in one pass over the filter places.
 ghost use mathlib.Core.Path.{_≡_};
 ghost use mathlib.Core.Bool.{not, true, _&&_};
 ghost use lib.ListN.{drop, getD};
@@ -6,7 +6,7 @@ ghost use Rattle.rules.specs.Walk.{all, apart};
 ghost use Prim.Native.Nat.{ℕ, _≤_, _<_};
 ghost use Rattle.driver.specs.Sound.{soundArea, soundFilter, samePid, sameNumber, soundNext, counted, sound};
 ghost use Rattle.driver.specs.State.{isOpen};
-ghost use Rattle.driver.specs.Tally.{fitsPlace, countedIn, metIn, isMet, agree};
+ghost use Rattle.driver.specs.Steps.Tally.{fitsPlace, countedIn, metIn, isMet, agree};
 use crate::Area;
 use crate::Filter;
 use crate::State;

@@ -1,13 +1,15 @@
 // A wanted packet: its last tests, its payload gathered into its area, and the set of places it is for.
 ghost use mathlib.Core.Path.{_≡_};
+ghost use mathlib.Core.Bool.{cond};
 ghost use Prim.Native.Nat.{_≤_, _<_};
 ghost use lib.ListN.{length, getD};
 ghost use Rattle.rules.specs.Answer.{given};
 ghost use Rattle.packet.specs.Packet.{toldPacket, readPacket};
 ghost use Rattle.gather.specs.Rule.{rule};
 ghost use Rattle.gather.specs.Memory.{stateOf};
-ghost use Rattle.driver.specs.State.{baseOf, freeArea};
-ghost use Rattle.driver.specs.Packet.{told, afterTests, taken, placesOn, standingOn, Ready};
+ghost use Rattle.driver.specs.State.{baseOf, freeArea, standsOn};
+ghost use Rattle.driver.specs.Packet.{told, afterTests, putBack, placesOn};
+ghost use Rattle.driver.specs.Steps.{Ready};
 use crate::Area;
 use crate::Filter;
 use crate::Handled;
@@ -19,7 +21,7 @@ use packet::Packet;
 
 // Whether the filter at a place is open on this area, as a number.
 fn stands_on(filter: Filter, area: u8) -> u32
-    ensures { λ r. ⌜ r ≡ standingOn area filter ⌝ }
+    ensures { λ r. ⌜ r ≡ cond (standsOn area filter) 1 0 ⌝ }
 {
     if (filter.number != 0) & (filter.area == area) {
         return 1;
@@ -62,9 +64,9 @@ fn gathered(
     out: &mut [u8],
 ) -> Handled
     requires { ⌜ Ready state (now store) (now out) ⌝ }
-    requires { ⌜ (i < 8) × (length (now payload) ≤ 184) ⌝ }
+    requires { ⌜ (i < 8) × (length (now payload) ≤ 184) × (counter ≤ 15) ⌝ }
     ensures { λ r. ⌜ told r (now (store .exit)) (now (out .exit))
-        ≡ taken state i (rule (stateOf (getD (state .areas) i freeArea .marks) (now (store .entry)) (baseOf i))
+        ≡ putBack state i (rule (stateOf (getD (state .areas) i freeArea .marks) (now (store .entry)) (baseOf i))
         (record { counter = counter; start = start; payload = now (payload .entry) })) (now (store .entry)) (now (out .entry)) ⌝ }
 {
     let mut areas = state.areas;
@@ -73,7 +75,8 @@ fn gathered(
     let marks = area.marks;
     let gathering = gather::gather(marks, counter, start, payload, store, 4096 * i, out);
     match gathering {
-        Gathering::Refused(n) => unhandled(state, n),
+        // never: what gathering would refuse was refused before, and one number for all its refusals costs least
+        Gathering::Refused(_n) => unhandled(state, 1),
         Gathering::Done(g) => {
             let pid = area.pid;
             let next = g.marks;
@@ -126,7 +129,7 @@ pub(crate) fn wanted(
     }
     let at = packet::payload_start(packet);
     let payload = &bytes[at..];
-    if gather::pointless(packet.unit_start, payload) {
+    if gather::leaves_none(packet.unit_start, payload) {
         return unhandled(state, 11);
     }
     gathered(

@@ -1,8 +1,8 @@
 -- A signed number's distance below zero, and one that is not below zero, as unsigned numbers.
 -- Assumes nothing.
 use mathlib.Core.Path.{_≡_, sym, subst, ap}
-use mathlib.Core.Bool.{Bool, true, false, not, false≢true}
-use Prim.Native.Nat.{ℕ, suc, _≤_, _<_}
+use mathlib.Core.Bool.{true, false, not, false≢true}
+use Prim.Native.Nat.{_≤_}
 use native.Mathlib.Omega.{arith}
 use native.Mathlib.Nat.{not-suc-le-zero}
 use lib.Dec.{T, ltb→lt, nltb→le}

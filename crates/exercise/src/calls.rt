@@ -12,7 +12,7 @@ use driver::Handling;
 use driver::Opening;
 use driver::Report;
 use driver::State;
-use packet::pid::Pid;
+use pid::Pid;
 
 // The state and the end of the text after a line.
 pub(crate) struct After {

@@ -6,7 +6,7 @@ use driver::Area;
 use driver::Filter;
 use driver::State;
 use gather::Marks;
-use packet::pid::Pid;
+use pid::Pid;
 
 // The lesser of two numbers.
 pub(crate) fn least(a: usize, b: usize) -> usize

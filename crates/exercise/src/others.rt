@@ -16,10 +16,10 @@ use packet::adaptation::Clock;
 use packet::adaptation::Countdown;
 use packet::adaptation::Length;
 use packet::adaptation::Part;
-use packet::pid::Making;
-use packet::pid::Pid;
 use pes::Header;
 use pes::stamps::Stamps;
+use pid::Making;
+use pid::Pid;
 
 // The outcome of a line.
 pub(crate) fn answer(line: Line, bytes: &mut [u8], text: &mut [u8], at: usize) -> usize {

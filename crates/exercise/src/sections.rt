@@ -6,7 +6,7 @@ use tables::pat::PatHeader;
 use tables::pmt::PmtDescriptor;
 use tables::pmt::PmtEntry;
 use tables::pmt::PmtHeader;
-use tables::section::Head;
+use tables::shared::Head;
 
 // The outcome of a line; one that no other part knows is bad.
 pub(crate) fn answer(line: Line, bytes: &[u8], text: &mut [u8], at: usize) -> usize {
@@ -91,7 +91,7 @@ fn pat_item(bytes: &[u8], index: u16, text: &mut [u8], at: usize) -> usize {
     match answer {
         PatEntry::Refused(n) => print::refused(text, end, n),
         PatEntry::Entry(program) => {
-            let row = [program.number as u64, program.pid as u64];
+            let row = [program.number as u64, program.pid.0 as u64];
             print::numbers(text, end, &row)
         }
     }
@@ -108,7 +108,7 @@ fn pmt(bytes: &[u8], text: &mut [u8], at: usize) -> usize {
             descriptors,
             entries,
         } => {
-            let row = [pcr_pid as u64, descriptors as u64, entries as u64];
+            let row = [pcr_pid.0 as u64, descriptors as u64, entries as u64];
             let end = head_fields(head, text, end);
             print::numbers(text, end, &row)
         }
@@ -123,7 +123,7 @@ fn pmt_item(bytes: &[u8], index: u16, text: &mut [u8], at: usize) -> usize {
         PmtEntry::Entry(stream) => {
             let row = [
                 stream.stream_type as u64,
-                stream.pid as u64,
+                stream.pid.0 as u64,
                 stream.descriptors as u64,
             ];
             print::numbers(text, end, &row)

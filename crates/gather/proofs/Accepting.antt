@@ -9,14 +9,14 @@ use lib.Dec.{eqb, leb}
 use lib.ListN.{length}
 use borrow.Author.Tests.{leb-true, eqb-true, eq-eqb, ne-eqb}
 use Rattle.rules.proofs.Write.{put-nil, put-same}
-use Rattle.gather.specs.declared.section.Kind.{Kind}
+use Rattle.gather.specs.declared.kind.Kind.{Kind}
 use Rattle.gather.specs.declared.Marks.{Marks}
-use Rattle.gather.specs.declared.Gathering.the-variants.{Done}
+use Rattle.rules.specs.Answer.{given}
 use Rattle.gather.specs.declared.measure.Sizes.{Sizes}
-use Rattle.gather.specs.Section.{classify, isPart}
-use Rattle.gather.specs.Rule.{Yield, State, Packet, started, yield, front, back, taken, unchanged, kept, lost, repeats, jumps, rule}
-use Rattle.gather.specs.Memory.{soundMarks, lastOf, isSeen, counterOf, marksOf, stateOf, bytesAt, wrote, handed, contradictsOf}
-use Rattle.gather.specs.Steps.{Carried, carried, carriedAs, unchangedOf, takenOf, unfinishedOf, Room}
+use Rattle.gather.specs.Kind.{classify}
+use Rattle.gather.specs.Rule.{Yield, State, Packet, started, yield, front, back, changed, unchanged, kept, lost, repeats, jumps, rule}
+use Rattle.gather.specs.Memory.{soundMarks, lastOf, isSeen, counterOf, marksOf, stateOf, stretch, toldGathered, leaves, onMemory, contradictsOf}
+use Rattle.gather.specs.Steps.{isPart, Carried, carried, carriedAs, unchangedOf, changedOf, unfinishedOf, Room}
 use Rattle.gather.proofs.Classes.{contradicting-kind}
 use Rattle.gather.proofs.Walk.{walk-fine}
 use Rattle.gather.proofs.Adding.{add-fine}
@@ -56,7 +56,7 @@ sound-says m e = go (m .seen) refl e
 pub marks-again : (m : Marks) (store : List ℕ) (base : ℕ) → soundMarks m ≡ true → base + 4096 ≤ length store → marksOf (stateOf m store base) ≡ m
 marks-again m store base s f =
     let w = sound-says m s in
-    let size : length (bytesAt (m .held) store base) ≡ m .held = length-part (m .held) store base (omega (arith, w)) in
+    let size : length (stretch (m .held) store base) ≡ m .held = length-part (m .held) store base (omega (arith, w)) in
     rw size (ap₂ (λ (b : Bool) (k : ℕ). record { held = m .held; seen = b; counter = k }) (seen-is (m .seen) (m .counter)) (counter-is (m .seen) (m .counter) (w .fresh)))
   where
     seen-is : (b : Bool) (k : ℕ) → isSeen (lastOf b k) ≡ b
@@ -69,18 +69,18 @@ marks-again m store base s f =
 
 module _ (m : Marks) (store : List ℕ) (base : ℕ) (out : List ℕ) (s : soundMarks m ≡ true) (area : base + 4096 ≤ length store) where
   -- a packet without payload or a repeat writes nothing
-  pub unchanged-handed : (again : Bool) → wrote (Done (unchangedOf m again)) store out ≡ handed (unchanged (stateOf m store base) again) store base out
-  unchanged-handed again =
+  pub unchanged-on-memory : (again : Bool) → leaves (given (toldGathered (unchangedOf m again))) store out ≡ onMemory (unchanged (stateOf m store base) again) store base out
+  unchanged-on-memory again =
       let w = sound-says m s in
       rw (marks-again m store base s area, put-same store base (m .held) (omega (arith, w)), put-nil out 0)
 
 -- a packet that is taken answers the sizes of what it gives
-pub taken-handed : (y : Yield) (z : Sizes) (store′ out′ store : List ℕ) (base : ℕ) (out : List ℕ) (jump : Bool) (counter lost : ℕ)
+pub changed-on-memory : (y : Yield) (z : Sizes) (store′ out′ store : List ℕ) (base : ℕ) (out : List ℕ) (jump : Bool) (counter lost : ℕ)
     → carriedAs z store′ out′ ≡ carried y store base out
-    → wrote (Done (takenOf jump counter (lost + z .«given_up») z)) store′ out′
-    ≡ handed (taken jump counter lost y) store base out
-taken-handed y z store′ out′ store base out jump counter lost e =
-    ap (λ (c : Carried). wrote (Done (takenOf jump counter (lost + c .sizes .«given_up») (c .sizes))) (c .store) (c .out)) e
+    → leaves (given (toldGathered (changedOf jump counter (lost + z .«given_up») z))) store′ out′
+    ≡ onMemory (changed jump counter lost y) store base out
+changed-on-memory y z store′ out′ store base out jump counter lost e =
+    ap (λ (c : Carried). leaves (given (toldGathered (changedOf jump counter (lost + c .sizes .«given_up») (c .sizes)))) (c .store) (c .out)) e
 
 -- ---- which of them the rule takes
 module _ (s : State) (p : Packet) where
@@ -92,11 +92,11 @@ module _ (s : State) (p : Packet) where
   unfolding rule
   rule-repeat e r = rw (ne-eqb (length (p .payload)) 0 e, r)
 
-  pub rule-taken : (length (p .payload) ≡ 0 → ⊥) → repeats (s .last) (p .counter) ≡ false
-      → rule s p ≡ taken (jumps (s .last) (p .counter)) (p .counter) (lost (jumps (s .last) (p .counter)) (s .held))
+  pub rule-changed : (length (p .payload) ≡ 0 → ⊥) → repeats (s .last) (p .counter) ≡ false
+      → rule s p ≡ changed (jumps (s .last) (p .counter)) (p .counter) (lost (jumps (s .last) (p .counter)) (s .held))
       (yield (kept (jumps (s .last) (p .counter)) (s .held)) (p .start) (p .payload))
   unfolding rule
-  rule-taken e r = rw (ne-eqb (length (p .payload)) 0 e, r)
+  rule-changed e r = rw (ne-eqb (length (p .payload)) 0 e, r)
 
 -- a payload gives up two sections at most
 pub yield-two : (held : List ℕ) (start : Bool) (payload : List ℕ) → yield held start payload .givenUp ≤ 2
@@ -108,7 +108,7 @@ yield-two held true payload =
 yield-two held false payload = let f = add-fine held payload .one in omega arith
 
 -- held bytes after a jump
-pub kept-part : (jump : Bool) (n : ℕ) (store : List ℕ) (base : ℕ) → bytesAt (cond jump 0 n) store base ≡ kept jump (bytesAt n store base)
+pub kept-part : (jump : Bool) (n : ℕ) (store : List ℕ) (base : ℕ) → stretch (cond jump 0 n) store base ≡ kept jump (stretch n store base)
 kept-part true n store base = refl
 kept-part false n store base = refl
 
@@ -137,22 +137,22 @@ module _ (m : Marks) (counter : ℕ) (start : Bool) (payload store : List ℕ) (
   abbrev p : Packet
   p = record { counter = counter; start = start; payload = payload }
 
-  pub taken-whole : (length payload ≡ 0 → ⊥) → repeats (lastOf (m .seen) (m .counter)) counter ≡ false
-      → (jump : Bool) (held given : ℕ) → jump ≡ jumps (lastOf (m .seen) (m .counter)) counter → held ≡ cond jump 0 (m .held) → given ≡ cond jump (unfinishedOf (m .held)) 0
-      → (z : Sizes) (store′ out′ : List ℕ) → carriedAs z store′ out′ ≡ carried (yield (bytesAt held store base) start payload) store base out
-      → wrote (Done (takenOf jump counter (given + z .«given_up») z)) store′ out′
-      ≡ handed (rule (stateOf m store base) (record { counter = counter; start = start; payload = payload })) store base out
-  taken-whole e r jump held given j h g z store′ out′ c =
-      let size : length (bytesAt (m .held) store base) ≡ m .held = length-part (m .held) store base (omega (arith, room)) in
-      let lost-is : given ≡ lost jump (bytesAt (m .held) store base) = rw size g in
-      let kept-is : bytesAt held store base ≡ kept jump (bytesAt (m .held) store base) = rw h (kept-part jump (m .held) store base) in
-      taken-handed (yield (bytesAt held store base) start payload) z store′ out′ store base out jump counter given c
-      ∙ rw (lost-is, kept-is, j, rule-taken s p e r)
+  pub changed-whole : (length payload ≡ 0 → ⊥) → repeats (lastOf (m .seen) (m .counter)) counter ≡ false
+      → (jump : Bool) (held gave : ℕ) → jump ≡ jumps (lastOf (m .seen) (m .counter)) counter → held ≡ cond jump 0 (m .held) → gave ≡ cond jump (unfinishedOf (m .held)) 0
+      → (z : Sizes) (store′ out′ : List ℕ) → carriedAs z store′ out′ ≡ carried (yield (stretch held store base) start payload) store base out
+      → leaves (given (toldGathered (changedOf jump counter (gave + z .«given_up») z))) store′ out′
+      ≡ onMemory (rule (stateOf m store base) (record { counter = counter; start = start; payload = payload })) store base out
+  changed-whole e r jump held gave j h g z store′ out′ c =
+      let size : length (stretch (m .held) store base) ≡ m .held = length-part (m .held) store base (omega (arith, room)) in
+      let lost-is : gave ≡ lost jump (stretch (m .held) store base) = rw size g in
+      let kept-is : stretch held store base ≡ kept jump (stretch (m .held) store base) = rw h (kept-part jump (m .held) store base) in
+      changed-on-memory (yield (stretch held store base) start payload) z store′ out′ store base out jump counter gave c
+      ∙ rw (lost-is, kept-is, j, rule-changed s p e r)
 
 -- ---- refusal 9, as the code tests it
 pub contradicts-is : (held : ℕ) (store : List ℕ) (base at n : ℕ) (k : Kind) (b : Bool) → at ≡ min base (length store) → n ≡ min held (length store - at)
-    → k ≡ classify (bytesAt n store at ++ bytesAt 0 store 0) → b ≡ isPart k → (not (eqb n 0) && not b) ≡ contradictsOf held store base
+    → k ≡ classify (stretch n store at ++ stretch 0 store 0) → b ≡ isPart k → (not (eqb n 0) && not b) ≡ contradictsOf held store base
 contradicts-is held store base at n k b f g e i =
-    let part : bytesAt n store at ≡ bytesAt held store base = rw (g, f) (part-least held store base) in
-    let size : length (bytesAt held store base) ≡ n = ap length (sym part) ∙ length-part n store at (omega arith) in
-    rw (i, e, append-nil (bytesAt n store at), part, ← size) (sym (contradicting-kind (bytesAt held store base)))
+    let part : stretch n store at ≡ stretch held store base = rw (g, f) (part-least held store base) in
+    let size : length (stretch held store base) ≡ n = ap length (sym part) ∙ length-part n store at (omega arith) in
+    rw (i, e, append-nil (stretch n store at), part, ← size) (sym (contradicting-kind (stretch held store base)))

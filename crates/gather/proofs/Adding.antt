@@ -12,11 +12,11 @@ use lib.Seq.{length-take-le, take-length}
 use borrow.Author.Tests.{eq-eqb, ne-eqb, eqb-true, eqb-false}
 use Rattle.rules.specs.Write.{put}
 use Rattle.rules.proofs.Write.{put-nil}
-use Rattle.gather.specs.declared.section.Kind.{Kind}
-use Rattle.gather.specs.declared.section.Kind.the-variants.{Nothing, Part, Overlong, Whole}
-use Rattle.gather.specs.Section.{classify, join}
+use Rattle.gather.specs.declared.kind.Kind.{Kind}
+use Rattle.gather.specs.declared.kind.Kind.the-variants.{Nothing, Part, Overlong, Whole}
+use Rattle.gather.specs.Kind.{classify, join}
 use Rattle.gather.specs.Rule.{Yield, nothing, first, add}
-use Rattle.gather.specs.Memory.{bytesAt}
+use Rattle.gather.specs.Memory.{stretch}
 use Rattle.gather.proofs.Classes.{whole-fits, part-fits}
 use Rattle.gather.proofs.Walk.{Fine, none-fine, first-fine}
 use Rattle.gather.proofs.Parts.{append-nil, length-part, put-after}
@@ -83,19 +83,19 @@ add-split = add-ind Added (λ held new. none-or held new 0) step
 
 -- ---- what is held after bytes were added, written behind what stands in the store
 pub put-added : (store : List ℕ) (base n : ℕ) (new : List ℕ) → base + 4096 ≤ length store → n ≤ 4095
-    → put store (base + n) (take (length (add (bytesAt n store base) new .held) - n) new) ≡ put store base (add (bytesAt n store base) new .held)
+    → put store (base + n) (take (length (add (stretch n store base) new .held) - n) new) ≡ put store base (add (stretch n store base) new .held)
 put-added store base n new h m =
-    go (add (bytesAt n store base) new .held) (add-split (bytesAt n store base) new .kept)
+    go (add (stretch n store base) new .held) (add-split (stretch n store base) new .kept)
   where
-    size : length (bytesAt n store base) ≡ n
+    size : length (stretch n store base) ≡ n
     size = length-part n store base (omega arith)
 
-    go : (after : List ℕ) → (after ≡ []) ⊎ ((after ≡ bytesAt n store base ++ new) × (length (bytesAt n store base ++ new) ≤ 4095))
-        → put store (base + n) (take (length after - n) new) ≡ put store base after
-    go after (inl e) =
+    go : (restAfter : List ℕ) → (restAfter ≡ []) ⊎ ((restAfter ≡ stretch n store base ++ new) × (length (stretch n store base ++ new) ≤ 4095))
+        → put store (base + n) (take (length restAfter - n) new) ≡ put store base restAfter
+    go restAfter (inl e) =
         let z : 0 - n ≡ 0 = omega arith in
         rw (e, z, put-nil store (base + n), put-nil store base)
-    go after (inr (e, l)) =
-        let sum : length (bytesAt n store base ++ new) ≡ n + length new = length-append (bytesAt n store base) new ∙ ap (λ (k : ℕ). k + length new) size in
-        let rest : length after - n ≡ length new = let t = ap length e in omega arith in
+    go restAfter (inr (e, l)) =
+        let sum : length (stretch n store base ++ new) ≡ n + length new = length-append (stretch n store base) new ∙ ap (λ (k : ℕ). k + length new) size in
+        let rest : length restAfter - n ≡ length new = let t = ap length e in omega arith in
         rw (rest, take-length new, e) (sym (put-after store base n new (let t = rw sum at l in omega arith)))

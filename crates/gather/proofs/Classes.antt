@@ -10,9 +10,11 @@ use lib.Dec.{ltb, leb, eqb}
 use lib.ListN.{length, getD, take, length-append, List·getD-append}
 use lib.Seq.{getD-take, length-take-le}
 use borrow.Author.Tests.{lt-ltb, le-ltb, le-leb, lt-leb, eq-eqb, ne-eqb, ltb-true, ltb-false, leb-true, eqb-true, eqb-false}
-use Rattle.gather.specs.declared.section.Kind.{Kind}
-use Rattle.gather.specs.declared.section.Kind.the-variants.{Nothing, Part, Overlong, Whole}
-use Rattle.gather.specs.Section.{lengthField, sectionLength, kindOf, classify, isEmpty, isPart, contradicting}
+use Rattle.gather.specs.declared.kind.Kind.{Kind}
+use Rattle.gather.specs.declared.kind.Kind.the-variants.{Nothing, Part, Overlong, Whole}
+use Rattle.gather.specs.Steps.{isPart}
+use Rattle.section.specs.Section.{lengthField, sectionLength}
+use Rattle.gather.specs.Kind.{kindOf, classify, isEmpty, contradicting}
 
 -- what a kind says of the first byte, of section_length and of the size
 abbrev pub Says : ℕ → ℕ → ℕ → Kind → Type 0

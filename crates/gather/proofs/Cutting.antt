@@ -10,10 +10,11 @@ use lib.ListN.{length, length-append}
 use lib.Seq.{take-at, drop-at, take-length}
 use borrow.Author.Tests.{ne-eqb}
 use Rattle.rules.specs.Walk.{Every}
-use Rattle.gather.specs.Section.{sectionLength, contradicting, join, cutFor, cut}
+use Rattle.section.specs.Section.{sectionLength}
+use Rattle.gather.specs.Kind.{contradicting, join, cutFor, cut}
 use Rattle.gather.specs.Rule.{State, Packet, rule}
 use Rattle.gather.proofs.Classes.{whole-fits, length-is}
-use Rattle.gather.proofs.Walk.{IsWhole}
+use Rattle.gather.specs.Claims.{IsWhole}
 use Rattle.gather.proofs.Laws.{rule-keeps}
 
 -- a whole section says its own size, whatever follows it

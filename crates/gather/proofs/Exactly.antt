@@ -1,7 +1,7 @@
 -- Sections that a payload holds are the ones that are finished: whole sections and then 0xFF, or nothing, and a section spread over any number of packets.
 -- Assumes nothing.
 use mathlib.Core.Path.{_≡_, refl, _∙_, ap}
-use mathlib.Core.Bool.{true, false}
+use mathlib.Core.Bool.{true}
 use mathlib.Core.List.{List, [], _∷_, _++_, append-assoc}
 use Prim.Native.Nat.{ℕ}
 use native.Mathlib.Numerals.{one-add}
@@ -9,12 +9,13 @@ use native.Mathlib.Omega.{arith}
 use lib.ListN.{length}
 use lib.Seq.{take-at, drop-at, take-length}
 use Rattle.rules.specs.Walk.{Every}
-use Rattle.gather.specs.declared.section.Kind.the-variants.{Nothing, Whole}
-use Rattle.gather.specs.Section.{classify, contradicting, join}
-use Rattle.gather.specs.Rule.{State, Packet, Yield, Outcome, add, walk, started, closed, together, repeats, jumps, kept, rule}
+use Rattle.gather.specs.declared.kind.Kind.the-variants.{Nothing, Whole}
+use Rattle.gather.specs.Kind.{classify, join}
+use Rattle.gather.specs.Rule.{Packet, Yield, Outcome, add, walk, started, ended, together, jumps, kept}
 use Rattle.gather.proofs.Classes.{whole-again}
-use Rattle.gather.proofs.Walk.{IsWhole, walk-kind}
-use Rattle.gather.proofs.Accepting.{rule-taken}
+use Rattle.gather.specs.Claims.{IsWhole, Exactly}
+use Rattle.gather.proofs.Walk.{walk-kind}
+use Rattle.gather.proofs.Accepting.{rule-changed}
 use Rattle.gather.proofs.Laws.{add-alone, kept-fine}
 
 -- whole sections and then nothing: exactly those
@@ -30,20 +31,17 @@ walk-exact (s ∷ ss) t w e =
 -- the same of a packet with unit start: the p bytes f for the held section, then the sections
 pub started-exact : (held f : List ℕ) (ss : List (List ℕ)) (t : List ℕ) → Every IsWhole ss → classify t ≡ Nothing
     → started held (length f ∷ (f ++ (join ss ++ t)))
-    ≡ together (closed (add held f)) (record { sections = ss; held = []; givenUp = 0 })
+    ≡ together (ended (add held f)) (record { sections = ss; held = []; givenUp = 0 })
 unfolding started
 started-exact held f ss t w e =
     rw (one-add (length f), take-at f (join ss ++ t) (length f) refl, drop-at f (join ss ++ t) (length f) refl, walk-exact ss t w e)
 
--- "a payload that holds whole sections and 0xFF gives exactly those", and nothing is held after it, whatever was held before, unless it is a repeat
-pub rule-exact : (s : State) (counter : ℕ) (ss : List (List ℕ)) (t : List ℕ) → contradicting (s .held) ≡ false → repeats (s .last) counter ≡ false
-    → Every IsWhole ss → classify t ≡ Nothing
-    → let o = rule s (record { counter = counter; start = true; payload = 0 ∷ (join ss ++ t) }) in
-    (o .sections ≡ ss) × (o .next .held ≡ [])
+-- and so of the rule, unless the packet is a repeat
+pub rule-exact : Exactly
 rule-exact s counter ss t h r w e =
     let p : Packet = record { counter = counter; start = true; payload = 0 ∷ (join ss ++ t) } in
     let b = jumps (s .last) counter in
-    let on = rule-taken s p (λ z. omega arith) r in
+    let on = rule-changed s p (λ z. omega arith) r in
     let all = started-exact (kept b (s .held)) [] ss t w e in (
       ap (λ (o : Outcome). o .sections) on
           ∙ ap (λ (y : Yield). y .sections) all

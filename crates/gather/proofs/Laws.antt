@@ -12,17 +12,17 @@ use lib.ListN.{length, length-append, length-take, length-drop}
 use borrow.Author.Tests.{eqb-true, eqb-false, le-leb}
 use Rattle.rules.specs.Walk.{Every}
 use Rattle.rules.proofs.Walk.{every-append}
-use Rattle.gather.specs.declared.section.Kind.{Kind}
-use Rattle.gather.specs.declared.section.Kind.the-variants.{Nothing, Part, Overlong, Whole}
-use Rattle.gather.specs.Section.{classify, contradicting, join}
-use Rattle.gather.specs.Rule.{State, Packet, Yield, Outcome, nothing, first, add, walk, front, back, started, yield, repeats, jumps, kept, lost, taken, unchanged, rule}
-use Rattle.gather.specs.Memory.{counterOf, soundMarks, marksOf}
+use Rattle.gather.specs.declared.kind.Kind.{Kind}
+use Rattle.gather.specs.declared.kind.Kind.the-variants.{Nothing, Part, Overlong, Whole}
+use Rattle.gather.specs.Kind.{classify, contradicting, join}
+use Rattle.gather.specs.Rule.{State, Packet, Yield, Outcome, nothing, first, add, walk, front, back, started, yield, repeats, jumps, kept, lost, changed, unchanged, rule}
+use Rattle.gather.specs.Claims.{IsWhole, Keeps, Never}
 use Rattle.gather.proofs.Classes.{held-kind, held-fits, part-fits}
-use Rattle.gather.proofs.Walk.{IsWhole, walk-fine, walk-split, whole-count}
+use Rattle.gather.proofs.Walk.{walk-fine, walk-split, whole-count}
 use Rattle.gather.proofs.Adding.{add-none, add-kind, add-ind, add-fine, add-split}
 use Rattle.gather.proofs.Parts.{append-nil}
 use Rattle.gather.proofs.Carrying.{join-append, unfinished-le}
-use Rattle.gather.proofs.Accepting.{rule-empty, rule-repeat, rule-taken, yield-two}
+use Rattle.gather.proofs.Accepting.{rule-empty, rule-repeat, rule-changed, yield-two}
 
 -- ---- the three ways of the rule
 module _ (s : State) (p : Packet) where
@@ -30,14 +30,14 @@ module _ (s : State) (p : Packet) where
       → (length (p .payload) ≡ 0 → P (unchanged s false))
       → ((length (p .payload) ≡ 0 → ⊥) → repeats (s .last) (p .counter) ≡ true → P (unchanged s true))
       → ((length (p .payload) ≡ 0 → ⊥) → repeats (s .last) (p .counter) ≡ false
-      → P (taken (jumps (s .last) (p .counter)) (p .counter) (lost (jumps (s .last) (p .counter)) (s .held))
+      → P (changed (jumps (s .last) (p .counter)) (p .counter) (lost (jumps (s .last) (p .counter)) (s .held))
       (yield (kept (jumps (s .last) (p .counter)) (s .held)) (p .start) (p .payload))))
       → P (rule s p)
   rule-ind P none again on = empty (eqb (length (p .payload)) 0) refl
     where
       repeated : (length (p .payload) ≡ 0 → ⊥) → (b : Bool) → repeats (s .last) (p .counter) ≡ b → P (rule s p)
       repeated e true r = rw (rule-repeat s p e r) (again e r)
-      repeated e false r = rw (rule-taken s p e r) (on e r)
+      repeated e false r = rw (rule-changed s p e r) (on e r)
 
       empty : (b : Bool) → eqb (length (p .payload)) 0 ≡ b → P (rule s p)
       empty true e = let z = eqb-true (length (p .payload)) 0 e in rw (rule-empty s p z) (none z)
@@ -137,26 +137,6 @@ lost-two true held start payload =
 lost-two false held start payload = let t = yield-two held start payload in omega arith
 
 -- ---- what the rule keeps
-pub record Keeps (s : State) (p : Packet) (o : Outcome) : Type 0 where
-  -- every finished section is whole
-  pub whole : Every IsWhole (o .sections)
-  -- what is held never contradicts itself, so refusal 9 cannot follow
-  pub part : contradicting (o .next .held) ≡ false
-  -- "held bytes are 0 to 4,095"
-  pub held : length (o .next .held) ≤ 4095
-  -- "how many sections were given up (0 to 2)"
-  pub two : o .givenUp ≤ 2
-  -- "their number (at most 61)"
-  pub count : length (p .payload) ≤ 184 → length (o .sections) ≤ 61
-  -- no more bytes are finished than were held and came
-  pub within : length (join (o .sections)) ≤ length (s .held) + length (p .payload)
-  -- the output buffer of 4,278 bytes serves
-  pub bytes : length (p .payload) ≤ 184 → length (join (o .sections)) ≤ 4278
-  -- a counter of 0 to 15
-  pub counter : counterOf (s .last) ≤ 15 → p .counter ≤ 15 → counterOf (o .next .last) ≤ 15
-  -- the marks stay sound
-  pub sound : soundMarks (marksOf s) ≡ true → p .counter ≤ 15 → soundMarks (marksOf (o .next)) ≡ true
-
 pub rule-keeps : (s : State) (p : Packet) → contradicting (s .held) ≡ false → Keeps s p (rule s p)
 rule-keeps s p h = rule-ind s p (Keeps s p) (λ z. same false) (λ e r. same true) on
   where
@@ -165,7 +145,7 @@ rule-keeps s p h = rule-ind s p (Keeps s p) (λ z. same false) (λ e r. same tru
         record { whole = tt; part = h; held = held-fits (s .held) h; two = omega arith; count = λ l. omega arith; within = omega arith; bytes = λ l. omega arith; counter = λ k l. k; sound = λ k l. k }
 
     on : (length (p .payload) ≡ 0 → ⊥) → repeats (s .last) (p .counter) ≡ false
-        → Keeps s p (taken (jumps (s .last) (p .counter)) (p .counter) (lost (jumps (s .last) (p .counter)) (s .held))
+        → Keeps s p (changed (jumps (s .last) (p .counter)) (p .counter) (lost (jumps (s .last) (p .counter)) (s .held))
         (yield (kept (jumps (s .last) (p .counter)) (s .held)) (p .start) (p .payload)))
     on e r =
         let b = jumps (s .last) (p .counter) in
@@ -186,10 +166,6 @@ rule-keeps s p h = rule-ind s p (Keeps s p) (λ z. same false) (λ e r. same tru
         }
 
 -- ---- unit start 0 never starts a section: nothing comes of nothing held, and after a finished section nothing is held
-pub record Never (s : State) (o : Outcome) : Type 0 where
-  pub none : length (s .held) ≡ 0 → (o .sections ≡ []) × (length (o .next .held) ≡ 0)
-  pub ends : 0 < length (o .sections) → length (o .next .held) ≡ 0
-
 add-ends : (held new : List ℕ) → 0 < length (add held new .sections) → length (add held new .held) ≡ 0
 add-ends = add-ind (λ held new y. 0 < length (y .sections) → length (y .held) ≡ 0) (λ held new l. refl) step
   where
@@ -207,7 +183,7 @@ never-starts s p u = rule-ind s p (Never s) (λ z. same false) (λ e r. same tru
     same again = record { none = λ z. (refl, z); ends = λ l. absurd (not-suc-le-zero l) }
 
     on : (length (p .payload) ≡ 0 → ⊥) → repeats (s .last) (p .counter) ≡ false
-        → Never s (taken (jumps (s .last) (p .counter)) (p .counter) (lost (jumps (s .last) (p .counter)) (s .held))
+        → Never s (changed (jumps (s .last) (p .counter)) (p .counter) (lost (jumps (s .last) (p .counter)) (s .held))
         (yield (kept (jumps (s .last) (p .counter)) (s .held)) (p .start) (p .payload)))
     on e r =
         let held = kept (jumps (s .last) (p .counter)) (s .held) in

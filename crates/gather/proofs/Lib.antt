@@ -12,4 +12,4 @@ pub mod Spread
 pub mod Stored
 pub mod Stars
 pub mod Examples
-pub mod Outcomes
+pub mod Claims

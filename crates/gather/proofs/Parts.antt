@@ -8,24 +8,24 @@ use mathlib.Core.List.{List, [], _∷_, _++_}
 use Prim.Native.Nat.{ℕ, _+_, _-_, _≤_, _<_, min}
 use native.Mathlib.Nat.{zero-add}
 use native.Mathlib.Omega.{arith}
-use lib.ListN.{length, getD, take, drop, length-append, length-drop, take-append-drop, List·getD-eq-default, drop-of-length-le}
-use lib.Seq.{getD-take, getD-drop, getD-append-add, length-take-le, drop-drop, take-take, take-all, take-append-le, take-append-add, take-length}
+use lib.ListN.{length, getD, take, drop, length-append, length-drop, List·getD-eq-default, drop-of-length-le}
+use lib.Seq.{getD-take, getD-drop, getD-append-add, length-take-le, take-take, take-all, take-append-le, take-append-add, take-length}
 use Rattle.rules.specs.Write.{put}
 use Rattle.rules.proofs.Write.{put-put, put-nil, put-same}
-use Rattle.gather.specs.Memory.{bytesAt}
+use Rattle.gather.specs.Memory.{stretch}
 
 pub append-nil : (a : List ℕ) → a ++ [] ≡ a
 append-nil [] = refl
 append-nil (x ∷ xs) = ap (λ (l : List ℕ). x ∷ l) (append-nil xs)
 
-pub length-part : (n : ℕ) (s : List ℕ) (at : ℕ) → at + n ≤ length s → length (bytesAt n s at) ≡ n
+pub length-part : (n : ℕ) (s : List ℕ) (at : ℕ) → at + n ≤ length s → length (stretch n s at) ≡ n
 length-part n s at h = length-take-le n (drop at s) (rw length-drop (omega arith))
 
-pub part-byte : (n : ℕ) (s : List ℕ) (at i : ℕ) → i < n → getD (bytesAt n s at) i 0 ≡ getD s (at + i) 0
+pub part-byte : (n : ℕ) (s : List ℕ) (at i : ℕ) → i < n → getD (stretch n s at) i 0 ≡ getD s (at + i) 0
 part-byte n s at i h = getD-take n (drop at s) i 0 h ∙ getD-drop at s i 0
 
-pub part-past : (n : ℕ) (s : List ℕ) (at i : ℕ) → at + n ≤ length s → n ≤ i → getD (bytesAt n s at) i 0 ≡ 0
-part-past n s at i f h = List·getD-eq-default (bytesAt n s at) 0 (rw (length-part n s at f) h)
+pub part-past : (n : ℕ) (s : List ℕ) (at i : ℕ) → at + n ≤ length s → n ≤ i → getD (stretch n s at) i 0 ≡ 0
+part-past n s at i f h = List·getD-eq-default (stretch n s at) 0 (rw (length-part n s at f) h)
 
 -- a byte of the bytes after some bytes
 pub byte-after : (a b : List ℕ) (n i : ℕ) → length a ≡ n → n ≤ i → getD (a ++ b) i 0 ≡ getD b (i - n) 0
@@ -57,17 +57,17 @@ module _ (l : List ℕ) (n : ℕ) where
           take-all (min n (length l)) l (omega arith) ∙ sym (take-all n l (omega arith))
 
 -- a part that would go past the end ends there
-pub part-least : (n : ℕ) (s : List ℕ) (at : ℕ) → bytesAt (min n (length s - min at (length s))) s (min at (length s)) ≡ bytesAt n s at
+pub part-least : (n : ℕ) (s : List ℕ) (at : ℕ) → stretch (min n (length s - min at (length s))) s (min at (length s)) ≡ stretch n s at
 part-least n s at =
     ap (λ (k : ℕ). take (min n k) (drop (min at (length s)) s)) (sym (length-drop (min at (length s)) s))
     ∙ ap (λ (l : List ℕ). take (min n (length l)) l) (drop-least s at)
     ∙ take-least (drop at s) n
 
 -- bytes written after a part of a list that stands where it is written
-pub put-after : (d : List ℕ) (at n : ℕ) (t : List ℕ) → at + n + length t ≤ length d → put d at (bytesAt n d at ++ t) ≡ put d (at + n) t
+pub put-after : (d : List ℕ) (at n : ℕ) (t : List ℕ) → at + n + length t ≤ length d → put d at (stretch n d at ++ t) ≡ put d (at + n) t
 put-after d at n t h =
     let size = length-part n d at (omega arith) in
-    sym (put-put d at (bytesAt n d at) (rw size (omega arith)) t (rw size h)) ∙ rw (size, put-same d at n (omega arith))
+    sym (put-put d at (stretch n d at) (rw size (omega arith)) t (rw size h)) ∙ rw (size, put-same d at n (omega arith))
 
 -- a copy from two places, one after the other, is a copy of the joined bytes
 pub put-joined : (d a b : List ℕ) (n : ℕ) → n ≤ length d → n ≤ length (a ++ b)

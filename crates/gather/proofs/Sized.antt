@@ -7,12 +7,12 @@ use native.Mathlib.Nat.{add-zero, add-assoc}
 use native.Mathlib.Omega.{arith}
 use lib.ListN.{length, take, drop, length-append}
 use lib.Seq.{length-take-le, drop-drop}
-use Rattle.gather.specs.declared.section.Kind.{Kind}
-use Rattle.gather.specs.declared.section.Kind.the-variants.{Nothing, Part, Overlong, Whole}
+use Rattle.gather.specs.declared.kind.Kind.{Kind}
+use Rattle.gather.specs.declared.kind.Kind.the-variants.{Nothing, Part, Overlong, Whole}
 use Rattle.gather.specs.declared.measure.Sizes.{Sizes}
-use Rattle.gather.specs.Section.{classify, join}
-use Rattle.gather.specs.Rule.{Yield, nothing, first, after, walk, add}
-use Rattle.gather.specs.Memory.{bytesAt}
+use Rattle.gather.specs.Kind.{classify, join}
+use Rattle.gather.specs.Rule.{Yield, nothing, first, restAfter, walk, add}
+use Rattle.gather.specs.Memory.{stretch}
 use Rattle.gather.specs.Steps.{sizesOf}
 use Rattle.gather.proofs.Classes.{whole-fits, size-is}
 use Rattle.gather.proofs.Walk.{walk-kind}
@@ -22,27 +22,27 @@ use Rattle.gather.proofs.Parts.{append-nil, length-part}
 -- ---- bytes added to held ones
 -- the sizes with no bytes held, and by the kind of the held bytes with the new ones after them
 module _ (n : ℕ) (store : List ℕ) (base : ℕ) (new : List ℕ) (fits : base + n ≤ length store) where
-  pub sizes-none : n ≡ 0 → sizesOf nothing ≡ sizesOf (add (bytesAt n store base) new)
-  sizes-none e = ap sizesOf (sym (add-none (bytesAt n store base) new (length-part n store base fits ∙ e)))
+  pub sizes-none : n ≡ 0 → sizesOf nothing ≡ sizesOf (add (stretch n store base) new)
+  sizes-none e = ap sizesOf (sym (add-none (stretch n store base) new (length-part n store base fits ∙ e)))
 
-  pub sizes-kind : (n ≡ 0 → ⊥) → (k : Kind) → k ≡ classify (bytesAt n store base ++ new)
-      → sizesOf (first k (bytesAt n store base ++ new) nothing) ≡ sizesOf (add (bytesAt n store base) new)
+  pub sizes-kind : (n ≡ 0 → ⊥) → (k : Kind) → k ≡ classify (stretch n store base ++ new)
+      → sizesOf (first k (stretch n store base ++ new) nothing) ≡ sizesOf (add (stretch n store base) new)
   sizes-kind some k e =
-      let h : 0 < length (bytesAt n store base) = rw (length-part n store base fits) (omega arith) in
-      ap sizesOf (sym (add-kind (bytesAt n store base) new k h (sym e)))
+      let h : 0 < length (stretch n store base) = rw (length-part n store base fits) (omega arith) in
+      ap sizesOf (sym (add-kind (stretch n store base) new k h (sym e)))
 
-  pub sizes-part : (n ≡ 0 → ⊥) → (m : ℕ) → length new ≡ m → Part ≡ classify (bytesAt n store base ++ new)
-      → record { sections = 0; bytes = 0; held = n + m; «given_up» = 0 } ≡ sizesOf (add (bytesAt n store base) new)
+  pub sizes-part : (n ≡ 0 → ⊥) → (m : ℕ) → length new ≡ m → Part ≡ classify (stretch n store base ++ new)
+      → record { sections = 0; bytes = 0; held = n + m; «given_up» = 0 } ≡ sizesOf (add (stretch n store base) new)
   sizes-part some m l e =
-      let size : length (bytesAt n store base ++ new) ≡ n + m = rw (length-append (bytesAt n store base) new, length-part n store base fits, l) in
+      let size : length (stretch n store base ++ new) ≡ n + m = rw (length-append (stretch n store base) new, length-part n store base fits, l) in
       ap (λ (k : ℕ). record { sections = 0; bytes = 0; held = k; «given_up» = 0 }) (sym size) ∙ sizes-kind some Part e
 
-  pub sizes-whole : (n ≡ 0 → ⊥) → (k : ℕ) → Whole k ≡ classify (bytesAt n store base ++ new)
-      → record { sections = 1; bytes = k; held = 0; «given_up» = 0 } ≡ sizesOf (add (bytesAt n store base) new)
+  pub sizes-whole : (n ≡ 0 → ⊥) → (k : ℕ) → Whole k ≡ classify (stretch n store base ++ new)
+      → record { sections = 1; bytes = k; held = 0; «given_up» = 0 } ≡ sizesOf (add (stretch n store base) new)
   sizes-whole some k e =
-      let w = whole-fits (bytesAt n store base ++ new) k (sym e) in
-      let cut = take k (bytesAt n store base ++ new) in
-      let size : length (cut ++ []) ≡ k = ap length (append-nil cut) ∙ length-take-le k (bytesAt n store base ++ new) (w .within) in
+      let w = whole-fits (stretch n store base ++ new) k (sym e) in
+      let cut = take k (stretch n store base ++ new) in
+      let size : length (cut ++ []) ≡ k = ap length (append-nil cut) ∙ length-take-le k (stretch n store base ++ new) (w .within) in
       ap (λ (m : ℕ). record { sections = 1; bytes = m; held = 0; «given_up» = 0 }) (sym size) ∙ sizes-kind some (Whole k) e
 
 -- ---- section after section
@@ -52,7 +52,7 @@ grown n b z = record { sections = n + z .sections; bytes = b + z .bytes; held = 
 
 module _ (s : List ℕ) (n b : ℕ) where
   -- where no whole section stands the walk ends
-  ends : (k : Kind) → classify s ≡ k → grown n b (sizesOf (walk s)) ≡ grown n b (sizesOf (first k s (walk (after k s))))
+  ends : (k : Kind) → classify s ≡ k → grown n b (sizesOf (walk s)) ≡ grown n b (sizesOf (first k s (walk (restAfter k s))))
   ends k e = ap (λ (y : Yield). grown n b (sizesOf y)) (walk-kind s k e)
 
   pub ends-nothing : classify s ≡ Nothing → grown n b (sizesOf (walk s)) ≡ record { sections = n; bytes = b; held = 0; «given_up» = 0 }

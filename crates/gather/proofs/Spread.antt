@@ -3,26 +3,23 @@
 use mathlib.Core.Path.{_≡_, refl, _∙_, ap}
 use mathlib.Core.Bool.{true, false}
 use mathlib.Core.List.{List, [], _∷_, _++_, append-assoc}
-use Prim.Native.Nat.{ℕ, _+_, _%_, _<_}
+use Prim.Native.Nat.{ℕ, _+_, _%_}
 use native.Mathlib.Omega.{arith}
 use lib.ListN.{length, take, length-append}
 use lib.Seq.{take-at, take-length}
 use borrow.Author.Tests.{eq-eqb, ne-eqb}
 use Rattle.rules.specs.Walk.{Every}
-use Rattle.gather.specs.declared.section.Kind.the-variants.{Part, Whole}
-use Rattle.gather.specs.Section.{classify, contradicting, join}
-use Rattle.gather.specs.Rule.{seen, State, Packet, Yield, Outcome, add, started, closed, together, repeats, jumps, kept, lost, taken, rule}
-use Rattle.gather.specs.Run.{Ran, run, following, starting}
+use Rattle.gather.specs.declared.kind.Kind.the-variants.{Part, Whole}
+use Rattle.gather.specs.Kind.{classify, join}
+use Rattle.gather.specs.Rule.{seen, Packet, Yield, Outcome, add, started, ended, together, repeats, jumps, kept, lost, changed, rule}
+use Rattle.gather.specs.Run.{Ran, run, following}
 use Rattle.gather.proofs.Classes.{whole-again, part-of}
 use Rattle.gather.proofs.Parts.{append-nil}
-use Rattle.gather.proofs.Walk.{IsWhole, walk-kind}
+use Rattle.gather.specs.Claims.{IsWhole, Some, Spread}
+use Rattle.gather.proofs.Walk.{walk-kind}
 use Rattle.gather.proofs.Adding.{add-kind}
-use Rattle.gather.proofs.Accepting.{rule-taken}
+use Rattle.gather.proofs.Accepting.{rule-changed}
 use Rattle.gather.proofs.Laws.{add-alone, kept-fine}
-
--- some bytes
-abbrev pub Some : List ℕ → Type 0
-Some b = 0 < length b
 
 -- the next counter is no repeat and no jump
 next-new : (l : ℕ) → repeats (seen l) ((l + 1) % 16) ≡ false
@@ -33,9 +30,9 @@ next-step l = rw (ne-eqb ((l + 1) % 16) l (λ e. omega arith), eq-eqb ((l + 1) %
 
 -- a packet in step without unit start adds its payload
 pub rule-step : (held : List ℕ) (l : ℕ) (b : List ℕ) → Some b
-    → rule (record { held = held; last = seen l }) (record { counter = (l + 1) % 16; start = false; payload = b }) ≡ taken false ((l + 1) % 16) 0 (add held b)
+    → rule (record { held = held; last = seen l }) (record { counter = (l + 1) % 16; start = false; payload = b }) ≡ changed false ((l + 1) % 16) 0 (add held b)
 rule-step held l b n =
-    rw (next-step l) at (rule-taken (record { held = held; last = seen l }) (record { counter = (l + 1) % 16; start = false; payload = b }) (λ z. omega arith) (next-new l))
+    rw (next-step l) at (rule-changed (record { held = held; last = seen l }) (record { counter = (l + 1) % 16; start = false; payload = b }) (λ z. omega arith) (next-new l))
 
 -- the bytes of a whole section before its end are a part of it
 pub prefix-part : (a b : List ℕ) → IsWhole (a ++ b) → Some a → Some b → classify a ≡ Part
@@ -44,7 +41,7 @@ prefix-part a b w p q =
     (part-of (a ++ b) (length (a ++ b)) (length a) w p (rw length-append (omega arith)))
 
 -- a part of a section right after pointer 0 is held
-started-part : (held a : List ℕ) → classify a ≡ Part → started held (0 ∷ a) ≡ together (closed (add held [])) (record { sections = []; held = a; givenUp = 0 })
+started-part : (held a : List ℕ) → classify a ≡ Part → started held (0 ∷ a) ≡ together (ended (add held [])) (record { sections = []; held = a; givenUp = 0 })
 unfolding started
 started-part held a e = rw (walk-kind a Part e)
 
@@ -55,9 +52,9 @@ goOn o ps =
     record { next = r .next; sections = o .sections ++ r .sections; givenUp = o .givenUp + r .givenUp }
 
 run-step : (held : List ℕ) (l : ℕ) (b : List ℕ) (rest : List (List ℕ)) (y : Yield) → Some b → add held b ≡ y
-    → run (record { held = held; last = seen l }) (following l (b ∷ rest)) ≡ goOn (taken false ((l + 1) % 16) 0 y) (following ((l + 1) % 16) rest)
+    → run (record { held = held; last = seen l }) (following l (b ∷ rest)) ≡ goOn (changed false ((l + 1) % 16) 0 y) (following ((l + 1) % 16) rest)
 run-step held l b rest y n e =
-    ap (λ (o : Outcome). goOn o (following ((l + 1) % 16) rest)) (rule-step held l b n ∙ ap (λ (z : Yield). taken false ((l + 1) % 16) 0 z) e)
+    ap (λ (o : Outcome). goOn o (following ((l + 1) % 16) rest)) (rule-step held l b n ∙ ap (λ (z : Yield). changed false ((l + 1) % 16) 0 z) e)
 
 -- a section gathered whole: it alone is finished, none is given up and nothing is held
 pub record Whole-of (s : List ℕ) (r : Ran) : Type 0 where
@@ -92,16 +89,14 @@ module _ (c tail : List ℕ) (end : Some c) where
         held = ap (λ (r : Ran). r .next .held) on ∙ r .held;
       }
 
-  -- from its first byte on: the first packet has unit start and pointer 0; what was held before is given up
-  pub gathers-whole : (s : State) (counter : ℕ) (a : List ℕ) (bs : List (List ℕ)) → contradicting (s .held) ≡ false → repeats (s .last) counter ≡ false
-      → Some a → Every Some bs → IsWhole (a ++ (join bs ++ c))
-      → run s (starting counter a (bs ++ (c ++ tail) ∷ [])) .sections ≡ (a ++ (join bs ++ c)) ∷ []
-  gathers-whole s counter a bs h r p e w =
-      let more : Some (join bs ++ c) = rw length-append (omega arith) in
-      let b = jumps (s .last) counter in
-      let held = kept b (s .held) in
-      let rest = following counter (bs ++ (c ++ tail) ∷ []) in
-      ap (λ (o : Outcome). goOn o rest .sections) (rule-taken s (record { counter = counter; start = true; payload = 0 ∷ a }) (λ z. omega arith) r)
-      ∙ ap (λ (y : Yield). goOn (taken b counter (lost b (s .held)) y) rest .sections) (started-part held a (prefix-part a (join bs ++ c) w p more))
-      ∙ ap (λ (l : List (List ℕ)). (l ++ []) ++ run (record { held = a; last = seen counter }) rest .sections) (add-alone held (kept-fine b (s .held) h))
-      ∙ gathers bs a counter p e w .sections
+-- from its first byte on: the first packet has unit start and pointer 0; what was held before is given up
+pub gathers-whole : Spread
+gathers-whole s counter a bs c tail h r p e end w =
+    let more : Some (join bs ++ c) = rw length-append (omega arith) in
+    let b = jumps (s .last) counter in
+    let held = kept b (s .held) in
+    let rest = following counter (bs ++ (c ++ tail) ∷ []) in
+    ap (λ (o : Outcome). goOn o rest .sections) (rule-changed s (record { counter = counter; start = true; payload = 0 ∷ a }) (λ z. omega arith) r)
+    ∙ ap (λ (y : Yield). goOn (changed b counter (lost b (s .held)) y) rest .sections) (started-part held a (prefix-part a (join bs ++ c) w p more))
+    ∙ ap (λ (l : List (List ℕ)). (l ++ []) ++ run (record { held = a; last = seen counter }) rest .sections) (add-alone held (kept-fine b (s .held) h))
+    ∙ gathers c tail end bs a counter p e w .sections

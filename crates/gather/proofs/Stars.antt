@@ -10,12 +10,12 @@ use lib.Seq.{drop-at}
 use borrow.Author.Tests.{le-leb}
 use Rattle.rules.specs.Walk.{Every}
 use Rattle.rules.proofs.Write.{put-nil}
-use Rattle.gather.specs.Section.{kindOf, classify}
-use Rattle.gather.specs.Rule.{seen, Yield, Outcome, front, back, walk, started, taken, rule}
-use Rattle.gather.specs.Memory.{handed}
-use Rattle.gather.specs.Stars.{Right, cases, length-182, pointer-183, pointer-182, pointer-182-stored, fresh, freshMarks}
+use Rattle.gather.specs.Kind.{kindOf, classify}
+use Rattle.gather.specs.Rule.{blank, seen, Yield, Outcome, front, back, walk, started, changed, rule}
+use Rattle.gather.specs.Memory.{noMarks, onMemory}
+use Rattle.gather.specs.Stars.{Right, cases, length-182, pointer-183, pointer-182, pointer-182-stored}
 use Rattle.gather.proofs.Adding.{add-none}
-use Rattle.gather.proofs.Accepting.{rule-taken}
+use Rattle.gather.proofs.Accepting.{rule-changed}
 use Rattle.gather.proofs.Stored.{serves}
 
 one-byte : Right length-182
@@ -36,20 +36,20 @@ module _ (bytes : List ℕ) (e : length bytes ≡ 182) where
   unfolding started walk classify kindOf
   gives = rw (add-none [] (front (182 ∷ (bytes ++ 0x80 ∷ []))) refl, last-byte)
 
-  one-held : (counter : ℕ) → rule fresh (record { counter = counter; start = true; payload = 182 ∷ (bytes ++ 0x80 ∷ []) })
+  one-held : (counter : ℕ) → rule blank (record { counter = counter; start = true; payload = 182 ∷ (bytes ++ 0x80 ∷ []) })
       ≡ record { next = record { held = 0x80 ∷ []; last = seen counter }; sections = []; jump = false; repeat = false; givenUp = 0 }
   one-held counter =
-      rule-taken fresh (record { counter = counter; start = true; payload = 182 ∷ (bytes ++ 0x80 ∷ []) }) (λ z. omega arith) refl
-      ∙ ap (λ (y : Yield). taken false counter 0 y) gives
+      rule-changed blank (record { counter = counter; start = true; payload = 182 ∷ (bytes ++ 0x80 ∷ []) }) (λ z. omega arith) refl
+      ∙ ap (λ (y : Yield). changed false counter 0 y) gives
 
 held : Right pointer-182
 held counter bytes e = (rw (size bytes e), one-held bytes e counter)
 
 stored : Right pointer-182-stored
-stored counter bytes store base out e a o =
-    serves freshMarks counter true (182 ∷ (bytes ++ 0x80 ∷ [])) store base out
-    (record { bound = omega arith; short = let s = size bytes e in omega arith; area = a; output = o }) refl
-    ∙ ap (λ (r : Outcome). handed r store base out) (one-held bytes e counter)
+stored counter bytes store base out few e a o =
+    serves noMarks counter true (182 ∷ (bytes ++ 0x80 ∷ [])) store base out
+    (record { bound = omega arith; short = let s = size bytes e in omega arith; area = a; output = o }) refl few
+    ∙ ap (λ (r : Outcome). onMemory r store base out) (one-held bytes e counter)
     ∙ rw (put-nil out 0)
 
 -- every ★ case

@@ -11,31 +11,34 @@ use Rattle.rules.proofs.Refusal.{accepted}
 use Rattle.rules.specs.Write.{put}
 use Rattle.rules.proofs.Write.{written}
 use Rattle.gather.specs.declared.Marks.{Marks}
-use Rattle.gather.specs.declared.Gathering.the-variants.{Refused}
+use Rattle.rules.specs.Answer.{refused}
 use Rattle.rules.specs.Walk.{Every}
-use Rattle.gather.specs.Section.{join, cut}
+use Rattle.gather.specs.Kind.{join, cut}
 use Rattle.gather.specs.Rule.{Last, unseen, seen, State, Packet, rule}
-use Rattle.gather.specs.Memory.{soundMarks, lastOf, isSeen, counterOf, marksOf, stateOf, contradictsOf, unfit, gatherOf, handed, wrote}
+use Rattle.gather.specs.Memory.{soundMarks, lastOf, isSeen, counterOf, marksOf, stateOf, contradictsOf, gatherRefusals, gatherOf, onMemory, leaves}
 use Rattle.gather.specs.Steps.{Room}
 use Rattle.gather.proofs.Accepting.{sound-says, marks-again}
-use Rattle.gather.proofs.Walk.{IsWhole}
+use Rattle.gather.specs.Claims.{IsWhole}
 use Rattle.gather.proofs.Laws.{rule-keeps}
 use Rattle.gather.proofs.Cutting.{cut-join}
 
 -- where the sizes serve and the marks are sound, the answer is the rule's
 pub serves : (m : Marks) (counter : ℕ) (start : Bool) (payload store : List ℕ) (base : ℕ) (out : List ℕ)
-    → Room (m .held) payload store base out → soundMarks m ≡ true
+    → Room (m .held) payload store base out → soundMarks m ≡ true → counter ≤ 15
     → gatherOf m counter start payload store base out
-    ≡ handed (rule (stateOf m store base) (record { counter = counter; start = start; payload = payload })) store base out
+    ≡ onMemory (rule (stateOf m store base) (record { counter = counter; start = start; payload = payload })) store base out
 unfolding gatherOf
-serves m counter start payload store base out r s =
-    accepted (λ n. wrote (Refused n) store out)
-    (handed (rule (stateOf m store base) (record { counter = counter; start = start; payload = payload })) store base out)
-    (unfit m payload store base out) (
-      le-ltb (length store) 4096 (omega (arith, r)),
+serves m counter start payload store base out r s few =
+    accepted (λ n. leaves (refused n) store out)
+    (onMemory (rule (stateOf m store base) (record { counter = counter; start = start; payload = payload })) store base out)
+    (gatherRefusals m counter payload store base out) (
+      ap not s,
       (
-        le-ltb (length store - 4096) base (omega (arith, r)),
-        (ap not s, (le-ltb 184 (length payload) (r .short), (le-ltb (length out) 4278 (r .output), tt))),
+        le-ltb 15 counter few,
+        (
+          le-ltb (length store) 4096 (omega (arith, r)),
+          (le-ltb (length store - 4096) base (omega (arith, r)), (le-ltb (length out) 4278 (r .output), (le-ltb 184 (length payload) (r .short), tt))),
+        ),
       ),
     )
 

@@ -10,10 +10,11 @@ use lib.ListN.{length, take, drop, length-drop, length-append}
 use lib.Seq.{drop-drop, length-take-le, take-length, take-add}
 use borrow.Author.Tests.{ne-eqb}
 use Rattle.rules.specs.Walk.{Every}
-use Rattle.gather.specs.declared.section.Kind.{Kind}
-use Rattle.gather.specs.declared.section.Kind.the-variants.{Nothing, Part, Overlong, Whole}
-use Rattle.gather.specs.Section.{classify, contradicting, join}
-use Rattle.gather.specs.Rule.{Yield, nothing, unfinished, _then_, first, after, walkFor, walk}
+use Rattle.gather.specs.declared.kind.Kind.{Kind}
+use Rattle.gather.specs.declared.kind.Kind.the-variants.{Nothing, Part, Overlong, Whole}
+use Rattle.gather.specs.Kind.{classify, contradicting, join}
+use Rattle.gather.specs.Rule.{Yield, nothing, unfinished, _then_, first, restAfter, walkFor, walk}
+use Rattle.gather.specs.Claims.{IsWhole}
 use Rattle.gather.proofs.Classes.{kind-empty, whole-fits, whole-again, part-fits, part-holds, said-of, size-is}
 use Rattle.gather.proofs.Parts.{append-nil}
 
@@ -25,14 +26,14 @@ pub record Turns (P : List ℕ → Yield → Type 0) : Type 0 where
   pub at-whole : (s : List ℕ) (n : ℕ) (y : Yield) → classify s ≡ Whole n → P (drop n s) y → P s (take n s then y)
 
 -- the bytes after a whole section are fewer
-fewer : (s : List ℕ) (k : ℕ) → length s ≤ suc k → (j : Kind) → classify s ≡ j → length (after j s) ≤ k
+fewer : (s : List ℕ) (k : ℕ) → length s ≤ suc k → (j : Kind) → classify s ≡ j → length (restAfter j s) ≤ k
 fewer s k h Nothing e = zero-le
 fewer s k h Part e = zero-le
 fewer s k h Overlong e = zero-le
 fewer s k h (Whole n) e = let w = whole-fits s n e in rw length-drop (omega arith)
 
 module _ (P : List ℕ → Yield → Type 0) (t : Turns P) where
-  turn : (s : List ℕ) (rest : Yield) (j : Kind) → classify s ≡ j → P (after j s) rest → P s (first j s rest)
+  turn : (s : List ℕ) (rest : Yield) (j : Kind) → classify s ≡ j → P (restAfter j s) rest → P s (first j s rest)
   turn s rest Nothing e p = t .at-nothing s e
   turn s rest Part e p = t .at-part s e
   turn s rest Overlong e p = t .at-overlong s e
@@ -42,7 +43,7 @@ module _ (P : List ℕ → Yield → Type 0) (t : Turns P) where
   walks zero [] h = t .at-nothing [] kind-empty
   walks zero (x ∷ xs) h = absurd (not-suc-le-zero h)
   walks (suc k) s h =
-      turn s (walkFor k (after (classify s) s)) (classify s) refl (walks k (after (classify s) s) (fewer s k h (classify s) refl))
+      turn s (walkFor k (restAfter (classify s) s)) (classify s) refl (walks k (restAfter (classify s) s) (fewer s k h (classify s) refl))
 
   -- the induction over a walk
   pub walk-ind : (s : List ℕ) → P s (walk s)
@@ -71,18 +72,15 @@ enough = walk-ind (λ s y. (k : ℕ) → length s ≤ k → walkFor k s ≡ y) (
     whole s n y e rest (suc k) h = rw e (ap (λ (r : Yield). take n s then r) (rest k (fewer s k h (Whole n) e)))
 
 -- the walk by the kind of what stands first
-pub walk-eq : (s : List ℕ) → walk s ≡ first (classify s) s (walk (after (classify s) s))
+pub walk-eq : (s : List ℕ) → walk s ≡ first (classify s) s (walk (restAfter (classify s) s))
 walk-eq s =
     sym (enough s (suc (length s)) (omega arith))
-    ∙ ap (λ (r : Yield). first (classify s) s r) (enough (after (classify s) s) (length s) (fewer s (length s) (omega arith) (classify s) refl))
+    ∙ ap (λ (r : Yield). first (classify s) s r) (enough (restAfter (classify s) s) (length s) (fewer s (length s) (omega arith) (classify s) refl))
 
-pub walk-kind : (s : List ℕ) (k : Kind) → classify s ≡ k → walk s ≡ first k s (walk (after k s))
+pub walk-kind : (s : List ℕ) (k : Kind) → classify s ≡ k → walk s ≡ first k s (walk (restAfter k s))
 walk-kind s k e = rw e at (walk-eq s)
 
 -- a finished section is whole
-abbrev pub IsWhole : List ℕ → Type 0
-IsWhole s = classify s ≡ Whole (length s)
-
 pub whole-taken : (s : List ℕ) (n : ℕ) → classify s ≡ Whole n → IsWhole (take n s)
 whole-taken s n e =
     let w = whole-fits s n e in

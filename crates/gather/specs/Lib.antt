@@ -1,7 +1,9 @@
-pub mod Section
+pub mod Kind
 pub mod Rule
 pub mod Memory
+pub mod Promises
 pub mod Steps
 pub mod Run
 pub mod Stars
 pub mod Examples
+pub mod Claims

@@ -4,14 +4,19 @@ use mathlib.Core.List.{List, [], _∷_}
 use Prim.Native.Nat.{ℕ, _-_}
 use lib.Dec.{ltb, leb, eqb}
 use lib.ListN.{length, take, drop}
+use Rattle.rules.specs.Answer.{Answer, refused, given}
 use Rattle.rules.specs.Refusal.{Row, judge, _when_}
 use Rattle.rules.specs.Write.{put}
 use Rattle.gather.specs.declared.Marks.{Marks}
 use Rattle.gather.specs.declared.Gathered.{Gathered}
 use Rattle.gather.specs.declared.Gathering.{Gathering}
-use Rattle.gather.specs.declared.Gathering.the-variants.{Done, Refused}
-use Rattle.gather.specs.Section.{join, contradicting}
+use Rattle.gather.specs.declared.Gathering.the-variants as gathering
+use Rattle.gather.specs.Kind.{join, contradicting}
 use Rattle.gather.specs.Rule.{Last, unseen, seen, State, Outcome, rule}
+
+-- the marks of an area that was just taken, and of a free one
+abbrev pub noMarks : Marks
+noMarks = record { held = 0; seen = false; counter = 0 }
 
 -- "held bytes are 0 to 4,095; an area that has seen no counter holds 0 bytes and counter 0, any other used area a counter of 0 to 15" ("Filters and areas")
 abbrev pub soundMarks : Marks → Bool
@@ -23,12 +28,12 @@ lastOf false counter = unseen
 lastOf true counter = seen counter
 
 -- the n bytes of s from `at` on; bytes past the end are none
-abbrev pub bytesAt : ℕ → List ℕ → ℕ → List ℕ
-bytesAt n s at = take n (drop at s)
+abbrev pub stretch : ℕ → List ℕ → ℕ → List ℕ
+stretch n s at = take n (drop at s)
 
 -- what an area remembers, of its marks and the bytes of the store from its base on
 abbrev pub stateOf : Marks → List ℕ → ℕ → State
-stateOf m store base = record { held = bytesAt (m .held) store base; last = lastOf (m .seen) (m .counter) }
+stateOf m store base = record { held = stretch (m .held) store base; last = lastOf (m .seen) (m .counter) }
 
 -- whether a counter was seen
 abbrev pub isSeen : Last → Bool
@@ -44,41 +49,58 @@ counterOf (seen l) = l
 abbrev pub marksOf : State → Marks
 marksOf s = record { held = length (s .held); seen = isSeen (s .last); counter = counterOf (s .last) }
 
--- the answer, and every byte of the store and of the output
-pub record Wrote : Type 0 where
-  pub answer : Gathering
+-- what gathering says in document 01's terms: the area's marks after the packet, and of the packet call's answer all but the set
+pub record Result : Type 0 where
+  pub marks : Marks
+  pub sections : ℕ
+  pub bytes : ℕ
+  pub jump : Bool
+  pub repeat : Bool
+  pub givenUp : ℕ
+
+abbrev pub toldGathered : Gathered → Result
+toldGathered g =
+    record { marks = g .marks; sections = g .sections; bytes = g .bytes; jump = g .jump; repeat = g .repeat; givenUp = g .«given_up» }
+
+abbrev pub toldGathering : Gathering → Answer Result
+toldGathering (gathering.Done g) = given (toldGathered g)
+toldGathering (gathering.Refused n) = refused n
+
+-- what the call leaves: the answer, and every byte of the store and of the output
+pub record Leaves : Type 0 where
+  pub answer : Answer Result
   pub store : List ℕ
   pub out : List ℕ
 
--- an answer, and the store and the output as they are then
-abbrev pub wrote : Gathering → List ℕ → List ℕ → Wrote
-wrote answer store out = record { answer = answer; store = store; out = out }
+abbrev pub leaves : Answer Result → List ℕ → List ℕ → Leaves
+leaves answer store out = record { answer = answer; store = store; out = out }
 
--- the answer's numbers
-abbrev pub gatheredOf : Outcome → Gathered
-gatheredOf o =
-    record { marks = marksOf (o .next); sections = length (o .sections); bytes = length (join (o .sections)); jump = o .jump; repeat = o .repeat; «given_up» = o .givenUp }
+-- the numbers of an outcome of the rule
+abbrev pub resultOf : Outcome → Result
+resultOf o =
+    record { marks = marksOf (o .next); sections = length (o .sections); bytes = length (join (o .sections)); jump = o .jump; repeat = o .repeat; givenUp = o .givenUp }
 
 -- an outcome of the rule on memory: what is held stands from its area's first byte on, "finished sections stand joined at the start of the output", and every other byte is as before
-abbrev pub handed : Outcome → List ℕ → ℕ → List ℕ → Wrote
-handed o store base out = wrote (Done (gatheredOf o)) (put store base (o .next .held)) (put out 0 (join (o .sections)))
+abbrev pub onMemory : Outcome → List ℕ → ℕ → List ℕ → Leaves
+onMemory o store base out = leaves (given (resultOf o)) (put store base (o .next .held)) (put out 0 (join (o .sections)))
 
--- refusal 3: the area does not lie in the store, the marks are not sound, or the payload or the output has the wrong size
-abbrev pub unfit : Marks → List ℕ → List ℕ → ℕ → List ℕ → List Row
-unfit marks payload store base out =
-    (3 when ltb (length store) 4096)
+-- 1, 3, 2, as in the packet call: the marks or the counter are not sound; the area does not lie in the store, or the output has the wrong size; the payload is longer than a packet's
+abbrev pub gatherRefusals : Marks → ℕ → List ℕ → List ℕ → ℕ → List ℕ → List Row
+gatherRefusals marks counter payload store base out =
+    (1 when not (soundMarks marks))
+    ∷ (1 when ltb 15 counter)
+    ∷ (3 when ltb (length store) 4096)
     ∷ (3 when ltb (length store - 4096) base)
-    ∷ (3 when not (soundMarks marks))
-    ∷ (3 when ltb 184 (length payload))
     ∷ (3 when ltb (length out) 4278)
+    ∷ (2 when ltb 184 (length payload))
     ∷ []
 
 -- the call: refused, or the rule on memory
-unfoldable pub gatherOf : Marks → ℕ → Bool → List ℕ → List ℕ → ℕ → List ℕ → Wrote
+unfoldable pub gatherOf : Marks → ℕ → Bool → List ℕ → List ℕ → ℕ → List ℕ → Leaves
 gatherOf marks counter start payload store base out =
-    judge (λ n. wrote (Refused n) store out) (unfit marks payload store base out)
-    (handed (rule (stateOf marks store base) (record { counter = counter; start = start; payload = payload })) store base out)
+    judge (λ n. leaves (refused n) store out) (gatherRefusals marks counter payload store base out)
+    (onMemory (rule (stateOf marks store base) (record { counter = counter; start = start; payload = payload })) store base out)
 
 -- refusal 9 of the held bytes of the store; bytes past the store's end are none
 abbrev pub contradictsOf : ℕ → List ℕ → ℕ → Bool
-contradictsOf held store base = contradicting (bytesAt held store base)
+contradictsOf held store base = contradicting (stretch held store base)

@@ -4,9 +4,9 @@ use mathlib.Core.List.{List, [], _∷_, _++_}
 use Prim.Native.Nat.{ℕ, zero, suc, _+_, _%_}
 use lib.Dec.{eqb, leb}
 use lib.ListN.{length, getD, take, drop}
-use Rattle.gather.specs.declared.section.Kind.{Kind}
-use Rattle.gather.specs.declared.section.Kind.the-variants.{Nothing, Part, Overlong, Whole}
-use Rattle.gather.specs.Section.{classify, isEmpty}
+use Rattle.gather.specs.declared.kind.Kind.{Kind}
+use Rattle.gather.specs.declared.kind.Kind.the-variants.{Nothing, Part, Overlong, Whole}
+use Rattle.gather.specs.Kind.{classify, isEmpty}
 
 -- the area's last counter, or none yet
 pub data Last : Type 0 where
@@ -17,6 +17,10 @@ pub data Last : Type 0 where
 pub record State : Type 0 where
   pub held : List ℕ
   pub last : Last
+
+-- an area that was just taken: nothing is held, and no counter was seen
+abbrev pub blank : State
+blank = record { held = []; last = unseen }
 
 -- what a packet brings: its counter, its unit start, and its payload, empty where it has none
 pub record Packet : Type 0 where
@@ -59,16 +63,16 @@ first Overlong s rest = record { sections = []; held = []; givenUp = 1 }
 first (Whole n) s rest = take n s then rest
 
 -- the bytes after a whole section
-abbrev pub after : Kind → List ℕ → List ℕ
-after Nothing s = []
-after Part s = []
-after Overlong s = []
-after (Whole n) s = drop n s
+abbrev pub restAfter : Kind → List ℕ → List ℕ
+restAfter Nothing s = []
+restAfter Part s = []
+restAfter Overlong s = []
+restAfter (Whole n) s = drop n s
 
 -- "section follows section until the bytes end or a byte 0xFF stands where a table_id should"; the first argument bounds their number
 abbrev pub walkFor : ℕ → List ℕ → Yield
 walkFor zero s = nothing
-walkFor (suc k) s = let rest = walkFor k (after (classify s) s) in first (classify s) s rest
+walkFor (suc k) s = let rest = walkFor k (restAfter (classify s) s) in first (classify s) s rest
 
 -- the same of all bytes: there are no more sections than bytes
 unfoldable pub walk : List ℕ → Yield
@@ -79,8 +83,8 @@ unfoldable pub add : List ℕ → List ℕ → Yield
 add held new = cond (isEmpty held) nothing (first (classify (held ++ new)) (held ++ new) nothing)
 
 -- "if it is still not full, it is given up"
-abbrev pub closed : Yield → Yield
-closed y = record { sections = y .sections; held = []; givenUp = y .givenUp + unfinished (y .held) }
+abbrev pub ended : Yield → Yield
+ended y = record { sections = y .sections; held = []; givenUp = y .givenUp + unfinished (y .held) }
 
 -- what one part of the payload gives, and then the next
 abbrev pub together : Yield → Yield → Yield
@@ -100,7 +104,7 @@ back payload = drop (1 + pointer payload) payload
 
 -- unit start 1: the p bytes go to the held section, and sections follow them
 unfoldable pub started : List ℕ → List ℕ → Yield
-started held payload = together (closed (add held (front payload))) (walk (back payload))
+started held payload = together (ended (add held (front payload))) (walk (back payload))
 
 -- what a payload gives after the held bytes, by unit start
 abbrev pub yield : List ℕ → Bool → List ℕ → Yield
@@ -129,8 +133,8 @@ abbrev pub lost : Bool → List ℕ → ℕ
 lost jump held = cond jump (unfinished held) 0
 
 -- "Every packet not dropped sets the last counter"
-abbrev pub taken : Bool → ℕ → ℕ → Yield → Outcome
-taken jump counter lost y =
+abbrev pub changed : Bool → ℕ → ℕ → Yield → Outcome
+changed jump counter lost y =
     record { next = record { held = y .held; last = seen counter }; sections = y .sections; jump = jump; repeat = false; givenUp = lost + y .givenUp }
 
 -- the rule
@@ -138,7 +142,7 @@ unfoldable pub rule : State → Packet → Outcome
 rule s p =
     cond (isEmpty (p .payload)) (unchanged s false)
     (cond (repeats (s .last) (p .counter)) (unchanged s true)
-    (taken (jumps (s .last) (p .counter)) (p .counter) (lost (jumps (s .last) (p .counter)) (s .held))
+    (changed (jumps (s .last) (p .counter)) (p .counter) (lost (jumps (s .last) (p .counter)) (s .held))
     (yield (kept (jumps (s .last) (p .counter)) (s .held)) (p .start) (p .payload))))
 
 -- refusal 11: a payload with unit start whose pointer p leaves no byte for a section, p + 1 not below the payload's size

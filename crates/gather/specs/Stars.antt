@@ -4,11 +4,10 @@ use mathlib.Core.Bool.{true, false}
 use mathlib.Core.List.{List, [], _∷_, _++_}
 use Prim.Native.Nat.{ℕ, _+_, _≤_}
 use lib.ListN.{length}
+use Rattle.rules.specs.Answer.{given}
 use Rattle.rules.specs.Write.{put}
-use Rattle.gather.specs.declared.Marks.{Marks}
-use Rattle.gather.specs.declared.Gathering.the-variants.{Done}
-use Rattle.gather.specs.Rule.{unseen, seen, State, rule, leavesNone}
-use Rattle.gather.specs.Memory.{gatherOf, wrote}
+use Rattle.gather.specs.Rule.{blank, seen, rule, leavesNone}
+use Rattle.gather.specs.Memory.{noMarks, leaves, gatherOf}
 
 -- one case for each ★ line, and one for its bytes in memory
 pub data Case : Type 0 where
@@ -16,14 +15,6 @@ pub data Case : Type 0 where
   pointer-183 : Case
   pointer-182 : Case
   pointer-182-stored : Case
-
--- an area that has seen no counter
-abbrev pub fresh : State
-fresh = record { held = []; last = unseen }
-
--- its marks
-abbrev pub freshMarks : Marks
-freshMarks = record { held = 0; seen = false; counter = 0 }
 
 -- what each case says
 abbrev pub Right : Case → Type 0
@@ -35,20 +26,20 @@ Right pointer-183 = (bytes : List ℕ) → length bytes ≡ 183 → leavesNone t
 Right pointer-182 =
     (counter : ℕ) (bytes : List ℕ) → length bytes ≡ 182
     → (leavesNone true (182 ∷ (bytes ++ 0x80 ∷ [])) ≡ false)
-    × (rule fresh (record { counter = counter; start = true; payload = 182 ∷ (bytes ++ 0x80 ∷ []) })
+    × (rule blank (record { counter = counter; start = true; payload = 182 ∷ (bytes ++ 0x80 ∷ []) })
     ≡ record { next = record { held = 0x80 ∷ []; last = seen counter }; sections = []; jump = false; repeat = false; givenUp = 0 })
 -- the same on memory: one byte of the store is written, the area's first, and none of the output
 Right pointer-182-stored =
-    (counter : ℕ) (bytes store : List ℕ) (base : ℕ) (out : List ℕ) → length bytes ≡ 182 → base + 4096 ≤ length store → 4278 ≤ length out
-    → gatherOf freshMarks counter true (182 ∷ (bytes ++ 0x80 ∷ [])) store base out
-    ≡ wrote
-    (Done (record {
+    (counter : ℕ) (bytes store : List ℕ) (base : ℕ) (out : List ℕ) → counter ≤ 15 → length bytes ≡ 182 → base + 4096 ≤ length store → 4278 ≤ length out
+    → gatherOf noMarks counter true (182 ∷ (bytes ++ 0x80 ∷ [])) store base out
+    ≡ leaves
+    (given (record {
       marks = record { held = 1; seen = true; counter = counter };
       sections = 0;
       bytes = 0;
       jump = false;
       repeat = false;
-      «given_up» = 0;
+      givenUp = 0;
     }))
     (put store base (0x80 ∷ []))
     out

@@ -1,4 +1,4 @@
--- What the functions below the call promise: sizes that were measured, and what was copied by them.
+-- What the functions below the call promise: sizes that were measured, and what was copied by them; no public promise cites it.
 use mathlib.Core.Bool.{Bool, true, false, cond}
 use mathlib.Core.List.{List}
 use Prim.Native.Nat.{ℕ, _+_, _≤_}
@@ -8,8 +8,17 @@ use Rattle.rules.specs.Write.{put}
 use Rattle.gather.specs.declared.Marks.{Marks}
 use Rattle.gather.specs.declared.Gathered.{Gathered}
 use Rattle.gather.specs.declared.measure.Sizes.{Sizes}
-use Rattle.gather.specs.Section.{join}
+use Rattle.gather.specs.declared.kind.Kind.{Kind}
+use Rattle.gather.specs.declared.kind.Kind.the-variants.{Nothing, Part, Overlong, Whole}
+use Rattle.gather.specs.Kind.{join}
 use Rattle.gather.specs.Rule.{Yield}
+
+-- the bytes may be held: they are a part of a section
+abbrev pub isPart : Kind → Bool
+isPart Nothing = false
+isPart Part = true
+isPart Overlong = false
+isPart (Whole n) = false
 
 -- sizes, by their numbers
 abbrev pub sizesAs : ℕ → ℕ → ℕ → ℕ → Sizes
@@ -49,6 +58,6 @@ abbrev pub unchangedOf : Marks → Bool → Gathered
 unchangedOf marks again = record { marks = marks; sections = 0; bytes = 0; jump = false; repeat = again; «given_up» = 0 }
 
 -- the numbers of a packet that is taken
-abbrev pub takenOf : Bool → ℕ → ℕ → Sizes → Gathered
-takenOf jump counter givenUp z =
+abbrev pub changedOf : Bool → ℕ → ℕ → Sizes → Gathered
+changedOf jump counter givenUp z =
     record { marks = record { held = z .held; seen = true; counter = counter }; sections = z .sections; bytes = z .bytes; jump = jump; repeat = false; «given_up» = givenUp }

@@ -1,20 +1,22 @@
 // From payload to sections: the rule on an area of the store and on the output.
+mod kind;
 mod measure;
 mod memory;
-mod section;
 
+use kind::is_part;
 use measure::Sizes;
 use measure::joined_kind;
 use measure::least;
 use memory::gathered;
 use memory::unfinished;
-use section::is_part;
 ghost use mathlib.Core.Path.{_≡_};
 ghost use mathlib.Core.Bool.{true, cond};
-ghost use Rattle.gather.specs.declared.Gathering.the-variants.{Done};
-ghost use Rattle.gather.specs.Rule.{leavesNone, repeats, jumps, rule};
-ghost use Rattle.gather.specs.Memory.{soundMarks, lastOf, stateOf, contradictsOf, gatherOf, handed, wrote};
-ghost use Rattle.gather.specs.Steps.{unfinishedOf, unchangedOf, takenOf, Room};
+ghost use Prim.Native.Nat.{_≤_};
+ghost use Rattle.rules.specs.Answer.{given};
+ghost use Rattle.gather.specs.Rule.{repeats, jumps, rule};
+ghost use Rattle.gather.specs.Memory.{soundMarks, lastOf, stateOf, toldGathered, leaves, onMemory};
+ghost use Rattle.gather.specs.Promises.{TellsSound, TellsContradiction, TellsNoneLeft, Gathers};
+ghost use Rattle.gather.specs.Steps.{unfinishedOf, unchangedOf, changedOf, Room};
 
 // What the rule reads of an area besides the held bytes.
 pub struct Marks {
@@ -40,7 +42,7 @@ pub enum Gathering {
 
 // Whether marks are those of a sound state.
 pub fn sound(marks: Marks) -> bool
-    ensures { λ r. ⌜ r ≡ soundMarks marks ⌝ }
+    ensures { λ r. ⌜ TellsSound marks r ⌝ }
 {
     if marks.seen {
         return (marks.held <= 4095) & (marks.counter <= 15);
@@ -50,7 +52,7 @@ pub fn sound(marks: Marks) -> bool
 
 // Refusal 9: whether the held bytes are no part of a section; bytes past the store's end are none.
 pub fn contradicts(held: usize, store: &[u8], base: usize) -> bool
-    ensures { λ r. ⌜ r ≡ contradictsOf held (now (store .entry)) base ⌝ }
+    ensures { λ r. ⌜ TellsContradiction held (now (store .entry)) base r ⌝ }
 {
     let at = least(base, store.len());
     let n = least(held, store.len() - at);
@@ -59,8 +61,8 @@ pub fn contradicts(held: usize, store: &[u8], base: usize) -> bool
 }
 
 // Refusal 11: whether the pointer leaves no byte for a section.
-pub fn pointless(start: bool, payload: &[u8]) -> bool
-    ensures { λ r. ⌜ r ≡ leavesNone start (now (payload .entry)) ⌝ }
+pub fn leaves_none(start: bool, payload: &[u8]) -> bool
+    ensures { λ r. ⌜ TellsNoneLeft start (now (payload .entry)) r ⌝ }
 {
     if payload.len() == 0 {
         return false;
@@ -116,8 +118,8 @@ fn unchanged(marks: Marks, repeat: bool) -> Gathered
 }
 
 // A packet that is not dropped sets the last counter.
-fn taken(jump: bool, counter: u8, given_up: u8, sizes: Sizes) -> Gathered
-    ensures { λ r. ⌜ r ≡ takenOf jump counter «given_up» sizes ⌝ }
+fn changed(jump: bool, counter: u8, given_up: u8, sizes: Sizes) -> Gathered
+    ensures { λ r. ⌜ r ≡ changedOf jump counter «given_up» sizes ⌝ }
 {
     Gathered {
         marks: Marks {
@@ -145,8 +147,8 @@ fn accepted(
 ) -> Gathered
     requires { ⌜ Room (marks .held) (now payload) (now store) base (now out) ⌝ }
     requires { ⌜ soundMarks marks ≡ true ⌝ }
-    ensures { λ r. ⌜ wrote (Done r) (now (store .exit)) (now (out .exit))
-        ≡ handed (rule (stateOf marks (now (store .entry)) base) (record { counter = counter; start = start; payload = now (payload .entry) }))
+    ensures { λ r. ⌜ leaves (given (toldGathered r)) (now (store .exit)) (now (out .exit))
+        ≡ onMemory (rule (stateOf marks (now (store .entry)) base) (record { counter = counter; start = start; payload = now (payload .entry) }))
         (now (store .entry)) base (now (out .entry)) ⌝ }
 {
     let size = payload.len();
@@ -160,7 +162,7 @@ fn accepted(
     let lost = lost(jump, marks.held);
     let sizes = gathered(start, kept(jump, marks.held), payload, store, base, out);
     let given_up = lost + sizes.given_up;
-    taken(jump, counter, given_up, sizes)
+    changed(jump, counter, given_up, sizes)
 }
 
 // A packet's counter, unit start and payload, gathered into the area at `base` of the store and to the output.
@@ -173,23 +175,25 @@ pub fn gather(
     base: usize,
     out: &mut [u8],
 ) -> Gathering
-    ensures { λ r. ⌜ wrote r (now (store .exit)) (now (out .exit))
-        ≡ gatherOf marks counter start (now (payload .entry)) (now (store .entry)) base (now (out .entry)) ⌝ }
+    ensures { λ r. ⌜ Gathers marks counter start (now (payload .entry)) (now (store .entry)) base (now (out .entry)) (r, now (store .exit), now (out .exit)) ⌝ }
 {
+    if !sound(marks) {
+        return Gathering::Refused(1);
+    }
+    if 15 < counter {
+        return Gathering::Refused(1);
+    }
     if store.len() < 4096 {
         return Gathering::Refused(3);
     }
     if store.len() - 4096 < base {
         return Gathering::Refused(3);
     }
-    if !sound(marks) {
+    if out.len() < 4278 {
         return Gathering::Refused(3);
     }
     if 184 < payload.len() {
-        return Gathering::Refused(3);
-    }
-    if out.len() < 4278 {
-        return Gathering::Refused(3);
+        return Gathering::Refused(2);
     }
     Gathering::Done(accepted(marks, counter, start, payload, store, base, out))
 }

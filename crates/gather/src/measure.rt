@@ -1,15 +1,15 @@
 // What held bytes and a payload give, measured before a byte is copied.
-use crate::section::Kind;
-use crate::section::kind_at;
-use crate::section::kind_of;
-use crate::section::length_field;
+use crate::kind::Kind;
+use crate::kind::kind_at;
+use crate::kind::kind_of;
+use section::length_of;
 ghost use mathlib.Core.Path.{_≡_};
 ghost use mathlib.Core.List.{_++_};
 ghost use Prim.Native.Nat.{_≤_, _+_, min};
 ghost use lib.ListN.{length, drop, getD};
-ghost use Rattle.gather.specs.Section.{classify};
+ghost use Rattle.gather.specs.Kind.{classify};
 ghost use Rattle.gather.specs.Rule.{walk, add};
-ghost use Rattle.gather.specs.Memory.{bytesAt};
+ghost use Rattle.gather.specs.Memory.{stretch};
 ghost use Rattle.gather.specs.Steps.{sizesAs, sizesOf};
 
 // The sizes of what some bytes give.
@@ -53,7 +53,7 @@ fn joined_byte(
     i: usize,
 ) -> u8
     requires { ⌜ (base + held ≤ length (now store)) × (from + count ≤ length (now payload)) ⌝ }
-    ensures { λ r. ⌜ r ≡ getD (bytesAt held (now (store .entry)) base ++ bytesAt count (now (payload .entry)) from) i 0 ⌝ }
+    ensures { λ r. ⌜ r ≡ getD (stretch held (now (store .entry)) base ++ stretch count (now (payload .entry)) from) i 0 ⌝ }
 {
     if i < held {
         return store[base + i];
@@ -74,12 +74,12 @@ pub(crate) fn joined_kind(
     count: usize,
 ) -> Kind
     requires { ⌜ (base + held ≤ length (now store)) × (from + count ≤ length (now payload)) ⌝ }
-    ensures { λ r. ⌜ r ≡ classify (bytesAt held (now (store .entry)) base ++ bytesAt count (now (payload .entry)) from) ⌝ }
+    ensures { λ r. ⌜ r ≡ classify (stretch held (now (store .entry)) base ++ stretch count (now (payload .entry)) from) ⌝ }
 {
     let first = joined_byte(held, store, base, payload, from, count, 0);
     let second = joined_byte(held, store, base, payload, from, count, 1);
     let third = joined_byte(held, store, base, payload, from, count, 2);
-    kind_of(first, length_field(second, third), held + count)
+    kind_of(first, length_of(second, third), held + count)
 }
 
 // What `count` bytes of the payload, added to the held ones, give.
@@ -92,7 +92,7 @@ pub(crate) fn added(
     count: usize,
 ) -> Sizes
     requires { ⌜ (base + held ≤ length (now store)) × (from + count ≤ length (now payload)) ⌝ }
-    ensures { λ r. ⌜ r ≡ sizesOf (add (bytesAt held (now (store .entry)) base) (bytesAt count (now (payload .entry)) from)) ⌝ }
+    ensures { λ r. ⌜ r ≡ sizesOf (add (stretch held (now (store .entry)) base) (stretch count (now (payload .entry)) from)) ⌝ }
 {
     if held == 0 {
         return Sizes::new(0, 0, 0, 0);

@@ -9,7 +9,7 @@ ghost use Prim.Native.Nat.{_≤_, _<_, _+_, _-_};
 ghost use lib.ListN.{length, take, drop};
 ghost use Rattle.rules.specs.Write.{put};
 ghost use Rattle.gather.specs.Rule.{add, started, yield};
-ghost use Rattle.gather.specs.Memory.{bytesAt};
+ghost use Rattle.gather.specs.Memory.{stretch};
 ghost use Rattle.gather.specs.Steps.{carried, carriedAs, unfinishedOf, Room};
 
 // The difference, or 0.
@@ -25,7 +25,7 @@ fn less(a: usize, b: usize) -> usize
 // `n` bytes of `src` from `from` on, copied to `dst` from `at` on.
 fn copy(dst: &mut [u8], at: usize, src: &[u8], from: usize, n: usize)
     requires { ⌜ (at + n ≤ length (now dst)) × (from + n ≤ length (now src)) ⌝ }
-    ensures { λ r. ⌜ now (dst .exit) ≡ put (now (dst .entry)) at (bytesAt n (now (src .entry)) from) ⌝ }
+    ensures { λ r. ⌜ now (dst .exit) ≡ put (now (dst .entry)) at (stretch n (now (src .entry)) from) ⌝ }
 {
     let mut i: usize = 0;
     while i < n {
@@ -45,7 +45,7 @@ fn finish(
     out: &mut [u8],
 )
     requires { ⌜ (base + held ≤ length (now store)) × (from + (bytes - held) ≤ length (now payload)) × (bytes ≤ length (now out)) ⌝ }
-    ensures { λ r. ⌜ now (out .exit) ≡ put (now (out .entry)) 0 (take bytes (bytesAt held (now (store .entry)) base ++ drop from (now (payload .entry)))) ⌝ }
+    ensures { λ r. ⌜ now (out .exit) ≡ put (now (out .entry)) 0 (take bytes (stretch held (now (store .entry)) base ++ drop from (now (payload .entry)))) ⌝ }
 {
     let first = least(bytes, held);
     copy(out, 0, store, base, first);
@@ -56,7 +56,7 @@ fn finish(
 fn continued(held: usize, payload: &[u8], store: &mut [u8], base: usize, out: &mut [u8]) -> Sizes
     requires { ⌜ Room held (now payload) (now store) base (now out) ⌝ }
     ensures { λ r. ⌜ carriedAs r (now (store .exit)) (now (out .exit))
-        ≡ carried (add (bytesAt held (now (store .entry)) base) (now (payload .entry))) (now (store .entry)) base (now (out .entry)) ⌝ }
+        ≡ carried (add (stretch held (now (store .entry)) base) (now (payload .entry))) (now (store .entry)) base (now (out .entry)) ⌝ }
 {
     let sizes = added(held, store, base, payload, 0, payload.len());
     finish(sizes.bytes, held, store, base, payload, 0, out);
@@ -79,7 +79,7 @@ fn started(held: usize, payload: &[u8], store: &mut [u8], base: usize, out: &mut
     requires { ⌜ Room held (now payload) (now store) base (now out) ⌝ }
     requires { ⌜ 0 < length (now payload) ⌝ }
     ensures { λ r. ⌜ carriedAs r (now (store .exit)) (now (out .exit))
-        ≡ carried (started (bytesAt held (now (store .entry)) base) (now (payload .entry))) (now (store .entry)) base (now (out .entry)) ⌝ }
+        ≡ carried (started (stretch held (now (store .entry)) base) (now (payload .entry))) (now (store .entry)) base (now (out .entry)) ⌝ }
 {
     let from = least(1 + payload[0] as usize, payload.len());
     let first = added(held, store, base, payload, 1, from - 1);
@@ -107,7 +107,7 @@ pub(crate) fn gathered(
     requires { ⌜ Room held (now payload) (now store) base (now out) ⌝ }
     requires { ⌜ 0 < length (now payload) ⌝ }
     ensures { λ r. ⌜ carriedAs r (now (store .exit)) (now (out .exit))
-        ≡ carried (yield (bytesAt held (now (store .entry)) base) start (now (payload .entry))) (now (store .entry)) base (now (out .entry)) ⌝ }
+        ≡ carried (yield (stretch held (now (store .entry)) base) start (now (payload .entry))) (now (store .entry)) base (now (out .entry)) ⌝ }
 {
     if start {
         return started(held, payload, store, base, out);

@@ -1,3 +1,7 @@
 pub mod Bytes
 pub mod Sections
+pub mod Room
+pub mod Loop
+pub mod Rest
 pub mod Examples
+pub mod Claims

@@ -10,9 +10,10 @@ use native.Mathlib.Numerals.{unary-clauses}
 use lib.Dec.{T, leb, leb→le, nleb→lt}
 use lib.ListN.{length, getD, drop, drop-of-length-le}
 use lib.Seq.{drop-length, drop-drop}
+use Rattle.section.specs.Section.{sectionSize}
 use Rattle.text.specs.Text.{Text, withBytes}
 use Rattle.text.proofs.Laws.{with-append}
-use Rattle.listing.specs.Lines.{lineOf, section, sizeOf, sectionsOf}
+use Rattle.listing.specs.Lines.{lineOf, sectionWord, sectionsOf}
 use Rattle.listing.specs.declared.lines.Cell.the-variants.{Number}
 
 -- nothing is left past the end
@@ -31,14 +32,14 @@ drop-both : (l : List ℕ) (place size : ℕ) → drop (min (place + size) (leng
 drop-both l place size = drop-min (place + size) l ∙ sym (drop-drop size place l)
 
 pub turn : (t t′ : Text) (index pid left place : ℕ) (out : List ℕ) (b size place′ : ℕ) → 0 < left
-    → b ≡ getD (drop place out) 0 0 → size ≡ sizeOf (drop place out) → place′ ≡ min (place + size) (length out)
-    → t′ ≡ withBytes t (lineOf index (Number pid) section (Number b) (Number size))
+    → b ≡ getD (drop place out) 0 0 → size ≡ sectionSize (drop place out) → place′ ≡ min (place + size) (length out)
+    → t′ ≡ withBytes t (lineOf index (Number pid) sectionWord (Number b) (Number size))
     → withBytes t′ (sectionsOf index pid (left - 1) (drop place′ out)) ≡ withBytes t (sectionsOf index pid left (drop place out))
 turn t t′ index pid zero place out b size place′ h eb es ep et = absurd (not-suc-le-zero h)
 turn t t′ index pid (suc left) place out b size place′ h eb es ep et =
     let o = drop place out in
-    let line = lineOf index (Number pid) section (Number (getD o 0 0)) (Number (sizeOf o)) in
-    let rest = sectionsOf index pid left (drop (sizeOf o) o) in
-    let same : t′ ≡ withBytes t line = et ∙ ap₂ (λ (x y : ℕ). withBytes t (lineOf index (Number pid) section (Number x) (Number y))) eb es in
-    let left-over : drop place′ out ≡ drop (sizeOf o) o = ap (λ (k : ℕ). drop k out) ep ∙ drop-both out place size ∙ ap (λ (k : ℕ). drop k o) es in
+    let line = lineOf index (Number pid) sectionWord (Number (getD o 0 0)) (Number (sectionSize o)) in
+    let rest = sectionsOf index pid left (drop (sectionSize o) o) in
+    let same : t′ ≡ withBytes t line = et ∙ ap₂ (λ (x y : ℕ). withBytes t (lineOf index (Number pid) sectionWord (Number x) (Number y))) eb es in
+    let left-over : drop place′ out ≡ drop (sectionSize o) o = ap (λ (k : ℕ). drop k out) ep ∙ drop-both out place size ∙ ap (λ (k : ℕ). drop k o) es in
     rw (left-over, same) (simp unary-clauses (sym (with-append t line rest)))

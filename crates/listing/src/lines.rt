@@ -3,9 +3,10 @@ ghost use mathlib.Core.Path.{_≡_};
 ghost use mathlib.Core.List.{[], _∷_};
 ghost use Prim.Native.Nat.{_+_, min};
 ghost use lib.ListN.{getD, drop};
+ghost use Rattle.section.specs.Section.{sectionSize};
+ghost use Rattle.driver.specs.Packet.{toldReport, toldHandling, pidOf};
 ghost use Rattle.text.specs.Text.{upTo, withBytes};
-ghost use Rattle.listing.specs.Lines.{headerLine, cellOf, lineOf, markOf, marksOf, sizeOf, sectionsOf, packetOf};
-ghost use Rattle.listing.specs.Lines.{section as Lines·section};
+ghost use Rattle.listing.specs.Lines.{headerLine, cellOf, lineOf, sectionWord, markOf, marksOf, sectionsOf, linesOf};
 use driver::Handling;
 use driver::Report;
 
@@ -56,17 +57,17 @@ fn line(
     text::byte(text, end, b'\n')
 }
 
-// The lines of a packet on a PID that was answered so.
+// The lines of a packet that was answered so.
 pub(crate) fn packet(
     text: &mut [u8],
     at: usize,
     index: u64,
-    pid: u16,
+    packet: &[u8],
     answer: Handling,
     out: &[u8],
 ) -> usize
     ensures { λ r. ⌜ upTo (now (text .exit)) r
-        ≡ withBytes (upTo (now (text .entry)) at) (packetOf index pid answer (now (out .entry))) ⌝ }
+        ≡ withBytes (upTo (now (text .entry)) at) (linesOf index (pidOf (now (packet .entry))) (toldHandling answer) (now (out .entry))) ⌝ }
 {
     match answer {
         Handling::NotWanted => at,
@@ -75,16 +76,27 @@ pub(crate) fn packet(
             line(text, at, index, Cell::Dash, b"refused", number, Cell::Dash)
         }
         Handling::Wanted(report) => {
+            let pid = pid_of(packet);
             let end = marks(text, at, index, pid, report);
             sections(text, end, index, pid, report.sections, out)
         }
     }
 }
 
+// A packet's PID.
+fn pid_of(packet: &[u8]) -> u16
+    ensures { λ r. ⌜ r ≡ pidOf (now (packet .entry)) ⌝ }
+{
+    let high = byte(packet, 0, 1) as u32;
+    let low = byte(packet, 0, 2) as u32;
+    let last = byte(packet, 0, 3) as u32;
+    (((high * 256 + low) * 256 + last) / 256 % 8192) as u16
+}
+
 // The lines of what happened beside sections, in document 01's order.
 fn marks(text: &mut [u8], at: usize, index: u64, pid: u16, report: Report) -> usize
     ensures { λ r. ⌜ upTo (now (text .exit)) r
-        ≡ withBytes (upTo (now (text .entry)) at) (marksOf index pid report) ⌝ }
+        ≡ withBytes (upTo (now (text .entry)) at) (marksOf index pid (toldReport report)) ⌝ }
 {
     let cut = Cell::Number(report.given_up as u64);
     let mut end = at;
@@ -133,7 +145,7 @@ fn sections(text: &mut [u8], at: usize, index: u64, pid: u16, count: usize, out:
 // The line of a section of this table_id and size.
 fn section(text: &mut [u8], at: usize, index: u64, pid: u16, table: u8, size: usize) -> usize
     ensures { λ r. ⌜ upTo (now (text .exit)) r
-        ≡ withBytes (upTo (now (text .entry)) at) (lineOf index (Cell.Number pid) Lines·section (Cell.Number table) (Cell.Number size)) ⌝ }
+        ≡ withBytes (upTo (now (text .entry)) at) (lineOf index (Cell.Number pid) sectionWord (Cell.Number table) (Cell.Number size)) ⌝ }
 {
     let pid = Cell::Number(pid as u64);
     let number = Cell::Number(table as u64);
@@ -143,11 +155,9 @@ fn section(text: &mut [u8], at: usize, index: u64, pid: u16, table: u8, size: us
 
 // How many bytes the section at a place has.
 fn section_size(out: &[u8], place: usize) -> usize
-    ensures { λ r. ⌜ r ≡ sizeOf (drop place (now (out .entry))) ⌝ }
+    ensures { λ r. ⌜ r ≡ sectionSize (drop place (now (out .entry))) ⌝ }
 {
-    let high = byte(out, place, 1) % 16;
-    let low = byte(out, place, 2);
-    3 + (high as usize) * 256 + (low as usize)
+    3 + section::length_of(byte(out, place, 1), byte(out, place, 2))
 }
 
 // The byte so many behind a place, and 0 past the end.
@@ -163,7 +173,7 @@ fn byte(bytes: &[u8], place: usize, behind: usize) -> u8
 }
 
 // A place so many bytes further, or the end.
-fn further(place: usize, bytes: usize, end: usize) -> usize
+pub(crate) fn further(place: usize, bytes: usize, end: usize) -> usize
     ensures { λ r. ⌜ r ≡ min (place + bytes) end ⌝ }
 {
     if place < end {

@@ -1,7 +1,7 @@
 -- An accepted packet passed every row of the table, and each row's test bounds what it looks at.
 -- Assumes nothing.
 use mathlib.Core.Path.{_≡_, refl, sym, _∙_, ap, subst}
-use mathlib.Core.Bool.{Bool, true, false, cond, not, _&&_, _||_}
+use mathlib.Core.Bool.{Bool, true, false, cond, not, _&&_}
 use mathlib.Core.List.{List}
 use Prim.Native.Nat.{ℕ, zero, suc, _+_, _-_, _/_, _^_, _≤_, _<_}
 use native.Mathlib.Nat.{mod-lt}
@@ -9,24 +9,18 @@ use native.Mathlib.Omega.{arith}
 use borrow.Author.Tests.{ltb-false, eqb-true, eqb-false, not-false}
 use lib.Dec.{eqb, lit<, lit≤}
 use lib.ListN.{length, getD, drop, length-drop}
-use Rattle.rules.specs.Answer.{given}
 use Rattle.rules.specs.Number.{numberAt}
 use Rattle.rules.specs.Refusal.{Silent}
-use Rattle.rules.proofs.Test.{both-true}
+use Rattle.rules.proofs.Judged.{given-by}
+use Rattle.rules.proofs.Test.{both-true, neither}
 use Rattle.clock.proofs.Field.{reference-of-lt}
 use Rattle.clock.specs.Range.{referenceTurn}
 use Rattle.clock.specs.Reference.{extensionOf, referenceOf}
-use Rattle.packet.specs.Perhaps.{Perhaps, there, absent, perhaps}
-use Rattle.packet.specs.Adaptation.{Span, hasField, hasFlags, flagsOf, lengthOf, isWrongLength, isWrongClock, isFlagged, isOver, clockAt, partAt, taken, privatePlace, extensionPlace, fieldsEnd}
-use Rattle.packet.specs.Packet.{Contents, headerOf, controlOf, packetRefusals, readPacket}
+use Rattle.rules.specs.Perhaps.{Perhaps, there, absent, perhaps}
+use Rattle.packet.specs.Adaptation.{Span, hasField, hasFlags, flagsOf, lengthOf, isWrongLength, isWrongClock, isFlagged, isOver, clockAt, partAt, partSize, privatePlace, extensionPlace, fieldsEnd}
+use Rattle.packet.specs.Packet.{Contents, headerOf, controlOf, contents, packetRefusals}
 use Rattle.packet.specs.Payload.{startAfter, startOf, payloadStart}
-use Rattle.packet.specs.Accepted.{Accepted, InRange}
-use Rattle.packet.proofs.Exact.{contents, given-exactly}
-
--- ---- one test
-or-false : (a b : Bool) → (a || b) ≡ false → (a ≡ false) × (b ≡ false)
-or-false true b e = let z : _≡_ {A = ℕ} 0 1 = cc in absurd (omega arith)
-or-false false b e = (refl, e)
+use Rattle.packet.specs.Claims.Accepted.{Accepted, EveryAccepted, InRange}
 
 -- ---- clock references
 clock-small : (s : List ℕ) (i : ℕ) (flagged : Bool) → isWrongClock s i flagged ≡ false → InRange (clockAt s i flagged)
@@ -37,7 +31,7 @@ clock-small s i true e v h =
 clock-small s i false e v h = let z : _≡_ {A = ℕ} 0 1 = cc in absurd (omega arith)
 
 -- ---- private data and extension
-part-end : (s : List ℕ) (i : ℕ) (flagged : Bool) (span : Span) → partAt s i flagged ≡ there span → span .start + span .size ≡ i + taken (partAt s i flagged)
+part-end : (s : List ℕ) (i : ℕ) (flagged : Bool) (span : Span) → partAt s i flagged ≡ there span → span .start + span .size ≡ i + partSize (partAt s i flagged)
 part-end s i true span h =
     let start : i + 1 ≡ span .start = cc in
     let size : getD s i 0 ≡ span .size = cc in
@@ -80,7 +74,7 @@ shape : (control n : ℕ) → control < 4 → isWrongLength control n ≡ false 
 shape zero n l e = (lit≤ tt, λ h. absurd (omega arith), λ h. absurd (omega arith), λ h. absurd (omega arith))
 shape (suc zero) n l e = (lit≤ tt, λ h. (refl, refl), λ h. absurd (omega arith), λ h. absurd (omega arith))
 shape (suc (suc zero)) n l e =
-    let full = eqb-true n 183 (not-false (eqb n 183) (or-false (not (eqb n 183)) false e .0)) in
+    let full = eqb-true n 183 (not-false (eqb n 183) (neither (not (eqb n 183)) false e .0)) in
     (omega arith, λ h. absurd (omega arith), λ h. (ap there full, omega arith), λ h. absurd (omega arith))
 shape (suc (suc (suc zero))) n l e =
     let low = ltb-false 182 n e in
@@ -88,7 +82,7 @@ shape (suc (suc (suc zero))) n l e =
 shape (suc (suc (suc (suc k)))) n l e = absurd (omega arith)
 
 -- ---- the theorem
-pub accepted : (s : List ℕ) (p : Contents) → readPacket s ≡ given p → Accepted s p
+pub accepted : EveryAccepted
 accepted s p e =
     subst (Accepted s) (sym (passed .1))
     (record {
@@ -115,7 +109,7 @@ accepted s p e =
     flags = flagsOf control s
 
     passed : Silent (packetRefusals s) × (p ≡ contents s)
-    passed = given-exactly s p .0 e
+    passed = given-by (packetRefusals s) (contents s) p e
 
     rows : Silent (packetRefusals s)
     rows = passed .0

@@ -13,7 +13,7 @@ use Rattle.rules.specs.Answer.{Answer, refused, given}
 use Rattle.rules.specs.Number.{numberAt, numberOf}
 use Rattle.rules.specs.Refusal.{judge, _when_}
 use Rattle.clock.specs.Reference.{extensionOf, referenceOf, readReference}
-use Rattle.packet.specs.Perhaps.{there}
+use Rattle.rules.specs.Perhaps.{there}
 use Rattle.packet.specs.Steps.{readClock}
 use Rattle.rules.proofs.Judged.{mapped, judge-mapped}
 use Rattle.rules.proofs.Part.{part-drop, bytesAt-drop}

@@ -7,7 +7,7 @@ use Prim.Native.Nat.{ℕ}
 use lib.IntN.{negsuc}
 use lib.ListN.{replicate}
 use Rattle.rules.specs.Answer.{given}
-use Rattle.packet.specs.Perhaps.{there, absent}
+use Rattle.rules.specs.Perhaps.{there, absent}
 use Rattle.packet.specs.Steps.{bareField}
 use Rattle.packet.specs.Packet.{readPacket}
 use Rattle.packet.specs.Payload.{payloadStart}

@@ -6,7 +6,7 @@ use mathlib.Core.List.{List, [], _∷_}
 use Prim.Native.Nat.{ℕ}
 use Rattle.rules.specs.Answer.{Answer}
 use Rattle.rules.specs.Refusal.{_when_}
-use Rattle.packet.specs.Perhaps.{Perhaps}
+use Rattle.rules.specs.Perhaps.{Perhaps}
 use Rattle.packet.specs.Adaptation.{Field, isOver, isFlagged, isWrongClock, opcrPlace, clockAt, flaggedField}
 use Rattle.packet.specs.Steps.{readClock, readFlagged}
 use Rattle.rules.proofs.Judged.{joined, judge-joined}

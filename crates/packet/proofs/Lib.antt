@@ -3,9 +3,9 @@ pub mod Signed
 pub mod Flagged
 pub mod Field
 pub mod Header
-pub mod Exact
 pub mod Accepted
 pub mod Lent
 pub mod Stars
 pub mod Examples
-pub mod Outcomes
+pub mod Told
+pub mod Claims

@@ -6,8 +6,7 @@ use Rattle.rules.specs.Walk.{Every}
 use Rattle.packet.specs.Stars.{Right, cases, fieldFull}
 
 full : Right fieldFull
-full s size sync sound control length =
-    rw (eq-eqb (lib.ListN.length s) 188 size, eq-eqb (getD s 0 0) 0x47 sync, sound, control, length)
+full s size sync sound control filled = rw (eq-eqb (length s) 188 size, eq-eqb (getD s 0 0) 0x47 sync, sound, control, filled)
 
 pub stars : Every Right cases
 stars = (full, tt)

@@ -8,9 +8,9 @@ use lib.ListN.{getD}
 use Rattle.rules.specs.Number.{bits, numberAt}
 use Rattle.rules.specs.Refusal.{Row, _when_}
 use Rattle.clock.specs.Reference.{extensionOf, referenceOf}
-use Rattle.packet.specs.Perhaps.{Perhaps, there, absent, perhaps}
+use Rattle.rules.specs.Perhaps.{Perhaps, there, absent, perhaps}
 use Rattle.packet.specs.declared.adaptation.Length.{Length}
-use Rattle.packet.specs.declared.adaptation.Length.the-variants as length
+use Rattle.packet.specs.declared.adaptation.Length.the-variants as lengths
 use Rattle.packet.specs.declared.adaptation.Clock.{Clock}
 use Rattle.packet.specs.declared.adaptation.Clock.the-variants as clock
 use Rattle.packet.specs.declared.adaptation.Countdown.{Countdown}
@@ -39,8 +39,8 @@ pub record Field : Type 0 where
 -- ---- what the types of the code say in document 01's terms
 -- the field's length
 abbrev pub toldLength : Length → Perhaps ℕ
-toldLength (length.There n) = there n
-toldLength length.Absent = absent
+toldLength (lengths.There n) = there n
+toldLength lengths.Absent = absent
 
 -- a PCR or an OPCR, as a count of 27 MHz
 abbrev pub toldClock : Clock → Perhaps ℕ
@@ -119,17 +119,17 @@ abbrev pub partAt : List ℕ → ℕ → Bool → Perhaps Span
 partAt s i flagged = perhaps flagged (record { start = i + 1; size = getD s i 0 })
 
 -- "private data 1 + n, extension 1 + n"
-abbrev pub taken : Perhaps Span → ℕ
-taken absent = 0
-taken (there part) = 1 + part .size
+abbrev pub partSize : Perhaps Span → ℕ
+partSize absent = 0
+partSize (there part) = 1 + part .size
 
 -- the extension's length byte
 abbrev pub extensionPlace : List ℕ → ℕ → ℕ
-extensionPlace s flags = privatePlace flags + taken (partAt s (privatePlace flags) (isFlagged flags 1))
+extensionPlace s flags = privatePlace flags + partSize (partAt s (privatePlace flags) (isFlagged flags 1))
 
 -- where the flagged fields end and stuffing begins
 abbrev pub fieldsEnd : List ℕ → ℕ → ℕ
-fieldsEnd s flags = extensionPlace s flags + taken (partAt s (extensionPlace s flags) (isFlagged flags 0))
+fieldsEnd s flags = extensionPlace s flags + partSize (partAt s (extensionPlace s flags) (isFlagged flags 0))
 
 -- "Their sum with the flags byte must not pass the length": the field ends at place 5 + length
 abbrev pub isOver : List ℕ → ℕ → Bool

@@ -1,8 +1,7 @@
-pub mod Perhaps
-pub mod Pid
 pub mod Adaptation
-pub mod Steps
 pub mod Packet
 pub mod Payload
-pub mod Accepted
+pub mod Promises
+pub mod Claims
+pub mod Steps
 pub mod Stars

@@ -36,9 +36,9 @@ toldPacket p =
     }
 
 -- the same of the call's answer
-abbrev pub told : Reading → Answer Contents
-told (reading.Value p) = given (toldPacket p)
-told (reading.Refused n) = refused n
+abbrev pub toldReading : Reading → Answer Contents
+toldReading (reading.Value p) = given (toldPacket p)
+toldReading (reading.Refused n) = refused n
 
 -- "After the sync byte: error indicator, unit start, priority, PID (13 bits), scrambling (2), adaptation control (2), continuity counter (4)": 24 bits
 abbrev pub headerOf : List ℕ → ℕ
@@ -65,6 +65,10 @@ contentsOf h field =
       field = field;
     }
 
+-- what a packet says where it is not refused
+abbrev pub contents : List ℕ → Contents
+contents s = contentsOf (headerOf s) (fieldOf (controlOf (headerOf s)) s)
+
 -- "Reading a packet alone: 2, 4 to 8": the rows that look at the header
 abbrev pub headerRefusals : List ℕ → List Row
 headerRefusals s =
@@ -80,4 +84,4 @@ packetRefusals s = headerRefusals s ++ fieldRefusals (controlOf (headerOf s)) s
 
 -- a packet read alone
 abbrev pub readPacket : List ℕ → Answer Contents
-readPacket s = judge refused (packetRefusals s) (given (contentsOf (headerOf s) (fieldOf (controlOf (headerOf s)) s)))
+readPacket s = judge refused (packetRefusals s) (given (contents s))

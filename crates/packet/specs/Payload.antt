@@ -4,7 +4,7 @@ use Prim.Native.Nat.{ℕ, _+_}
 use lib.ListN.{length}
 use Rattle.rules.specs.Answer.{Answer, refused, given}
 use Rattle.rules.specs.Lent.{Lent, partFrom}
-use Rattle.packet.specs.Perhaps.{Perhaps, there, absent}
+use Rattle.rules.specs.Perhaps.{Perhaps, there, absent}
 use Rattle.packet.specs.Packet.{Contents, readPacket}
 
 -- "Control 01: payload of 184 bytes. Control 10: .. no payload. Control 11: .. payload 183 − length bytes": it begins after the header, or after the field where there is one
@@ -22,5 +22,5 @@ abbrev pub payloadStart : List ℕ → ℕ
 payloadStart s = startOf s (readPacket s)
 
 -- "The payload answer is the part of the caller's packet that holds the payload"
-abbrev pub payloadOf : Lent → Lent
-payloadOf l = partFrom l (payloadStart (l .bytes))
+abbrev pub payloadPart : Lent → Lent
+payloadPart l = partFrom l (payloadStart (l .bytes))

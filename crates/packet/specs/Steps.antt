@@ -1,11 +1,11 @@
--- What the private functions promise each other, in terms of the definitions.
+-- What the private functions promise each other, in terms of the definitions; no public promise cites it.
 use mathlib.Core.Path.{_≡_}
 use mathlib.Core.Bool.{Bool, true, false}
 use mathlib.Core.List.{List, [], _∷_}
 use Prim.Native.Nat.{ℕ}
 use Rattle.rules.specs.Answer.{Answer, refused, given}
 use Rattle.rules.specs.Refusal.{judge, _when_}
-use Rattle.packet.specs.Perhaps.{Perhaps, absent}
+use Rattle.rules.specs.Perhaps.{Perhaps, absent}
 use Rattle.packet.specs.Adaptation.{Field, toldClock, toldPart, toldField, isFlagged, privatePlace, extensionPlace, fieldsEnd, partAt, isWrongClock, clockAt, flaggedField, flaggedRefusals, fieldOf, fieldRefusals}
 use Rattle.packet.specs.declared.adaptation.Fields.{Fields}
 use Rattle.packet.specs.declared.adaptation.Fields.the-variants as fields

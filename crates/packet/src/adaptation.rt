@@ -2,13 +2,9 @@
 ghost use mathlib.Core.Path.{_≡_};
 ghost use Prim.Native.Nat.{_+_, _≤_, _<_};
 ghost use lib.ListN.{length, getD};
-ghost use Rattle.packet.specs.Perhaps.{there};
-ghost use Rattle.packet.specs.Adaptation.{toldLength, toldCountdown, toldPart, toldField};
-ghost use Rattle.packet.specs.Steps.{toldFields, toldClocked};
-ghost use Rattle.packet.specs.Adaptation.{isWrongLength, opcrPlace, countdownPlace, privatePlace, taken};
-ghost use Rattle.packet.specs.Steps.{Parted};
-ghost use Rattle.packet.specs.Adaptation.{countdownAt, signedOf, partAt};
-ghost use Rattle.packet.specs.Steps.{readClock, bareField, readFlagged, readField};
+ghost use Rattle.rules.specs.Perhaps.{there};
+ghost use Rattle.packet.specs.Adaptation.{toldLength, toldCountdown, toldPart, toldField, isWrongLength, opcrPlace, countdownPlace, privatePlace, partSize, countdownAt, signedOf, partAt};
+ghost use Rattle.packet.specs.Steps.{toldFields, toldClocked, Parted, readClock, bareField, readFlagged, readField};
 use clock::reference;
 use clock::reference::Reference;
 
@@ -110,7 +106,7 @@ fn part_at(bytes: &[u8], place: usize, flagged: bool) -> Part
 
 // How many bytes a part takes with its length byte.
 fn taken_by(part: Part) -> usize
-    ensures { λ r. ⌜ (r ≡ taken (toldPart part)) × (r ≤ 256) ⌝ }
+    ensures { λ r. ⌜ (r ≡ partSize (toldPart part)) × (r ≤ 256) ⌝ }
 {
     match part {
         Part::Absent => 0,

@@ -1,18 +1,17 @@
 // Transport packets of 188 bytes: the header, the adaptation field, and the part that holds the payload.
 ghost use mathlib.Core.Path.{_≡_};
 ghost use mathlib.Core.List.{[], _∷_};
+ghost use Rattle.rules.specs.Lent.{lent};
 ghost use Rattle.rules.specs.Number.{numberOf};
 ghost use Rattle.packet.specs.Adaptation.{toldField};
-ghost use Rattle.packet.specs.Packet.{told, toldPacket, isError, controlOf, contentsOf, readPacket};
-ghost use Rattle.rules.specs.Lent.{lent};
-ghost use Rattle.packet.specs.Payload.{startAfter, payloadOf};
+ghost use Rattle.packet.specs.Packet.{toldPacket, isError, controlOf, contentsOf};
+ghost use Rattle.packet.specs.Promises.{ReadsPacket, FindsPayloadStart, GivesPayload};
 use crate::adaptation::Adaptation;
 use crate::adaptation::Fields;
 use crate::adaptation::Length;
-use crate::pid::Pid;
+use pid::Pid;
 
 pub mod adaptation;
-pub mod pid;
 
 // What a packet says, one field for each thing read.
 pub struct Packet {
@@ -68,7 +67,7 @@ fn packet_of(header: u32, field: Adaptation) -> Packet
 
 // What a packet says, or the first refusal that applies to it.
 pub fn read(bytes: &[u8]) -> Reading
-    ensures { λ r. ⌜ told r ≡ readPacket (now (bytes .entry)) ⌝ }
+    ensures { λ r. ⌜ ReadsPacket (now (bytes .entry)) r ⌝ }
 {
     if bytes.len() != 188 {
         return Reading::Refused(2);
@@ -93,7 +92,7 @@ pub fn read(bytes: &[u8]) -> Reading
 
 // Where the payload of a packet that reads so begins.
 pub fn payload_start(packet: Packet) -> usize
-    ensures { λ r. ⌜ r ≡ startAfter (toldPacket packet .field .size) ⌝ }
+    ensures { λ r. ⌜ FindsPayloadStart packet r ⌝ }
 {
     let field = packet.field;
     let length = field.length;
@@ -105,7 +104,7 @@ pub fn payload_start(packet: Packet) -> usize
 
 // The part of the packet that holds the payload: empty, at the packet's end, where there is none or the packet is refused.
 pub fn payload(bytes: &[u8]) -> &[u8]
-    ensures { λ r. ⌜ lent r ≡ payloadOf (lent (bytes .entry)) ⌝ }
+    ensures { λ r. ⌜ GivesPayload (lent (bytes .entry)) (lent r) ⌝ }
 {
     let reading = read(bytes);
     match reading {

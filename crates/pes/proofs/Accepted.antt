@@ -1,7 +1,7 @@
 -- An accepted header passed every row of the table, and each row's test bounds what it looks at.
 -- Assumes nothing.
 use mathlib.Core.Path.{_≡_, refl, sym, subst}
-use mathlib.Core.Bool.{Bool, true, false, cond, _||_}
+use mathlib.Core.Bool.{Bool, true, false, cond}
 use mathlib.Core.List.{List, [], _++_}
 use Prim.Native.Nat.{ℕ, _+_, _≤_}
 use native.Mathlib.Omega.{arith}
@@ -11,17 +11,18 @@ use lib.ListN.{length}
 use Rattle.rules.specs.Answer.{given}
 use Rattle.rules.specs.Number.{numberAt}
 use Rattle.rules.specs.Refusal.{Silent}
+use Rattle.rules.proofs.Judged.{given-by}
+use Rattle.rules.proofs.Test.{neither}
 use Rattle.clock.proofs.Field.{stamp-of-lt}
 use Rattle.pes.specs.Stream.{isBare}
 use Rattle.pes.specs.Stamps.{none, pts, both, stampsSize, stampAt, stampsOf}
-use Rattle.pes.specs.Header.{Full, full, bare, idOf, packetLengthOf, headerLengthOf, flagsOf, codeOf, fieldsSize, isOver, startRefusals, optionalRefusals, fullOf, optionalOf, readHeader}
-use Rattle.pes.specs.Accepted.{Accepted, InRange}
+use Rattle.pes.specs.Header.{Full, full, bare, idOf, packetLengthOf, headerLengthOf, flagsOf, codeOf, fieldsSize, isOver, startRefusals, optionalRefusals, headerRefusals, fullOf, optionalOf, contentsOf, readHeader}
+use Rattle.pes.specs.Claims.Accepted.{Accepted, EveryAccepted, InRange}
 use Rattle.pes.proofs.Lengths.{fields-fit}
-use Rattle.pes.proofs.Exact.{given-exactly}
 
 -- a header that is read in full passed the rows of its optional header
 passed : (s : List ℕ) (h : Full) → readHeader s ≡ given (full h) → Silent (optionalRefusals s) × (h ≡ fullOf s (stampsOf s (codeOf (flagsOf s))))
-passed s h e = let r = given-exactly s (full h) .0 e in go (isBare (idOf s)) (r .0) (r .1)
+passed s h e = let r = given-by (headerRefusals s) (contentsOf s) (full h) e in go (isBare (idOf s)) (r .0) (r .1)
   where
     go : (b : Bool) → Silent (startRefusals s ++ cond b [] (optionalRefusals s)) → full h ≡ cond b (bare (idOf s) (packetLengthOf s)) (optionalOf s)
         → Silent (optionalRefusals s) × (h ≡ fullOf s (stampsOf s (codeOf (flagsOf s))))
@@ -30,11 +31,8 @@ passed s h e = let r = given-exactly s (full h) .0 e in go (isBare (idOf s)) (r 
 
 -- ---- lengths
 counted-by : (packet fields header : ℕ) → isOver packet fields header ≡ false → (packet ≡ 0 → ⊥) → 3 + header ≤ packet
-counted-by packet fields header e some = ltb-false packet (3 + header) (second (ltb header fields) (rw (ne-eqb packet 0 some) at e))
-  where
-    second : (a : Bool) → (a || ltb packet (3 + header)) ≡ false → ltb packet (3 + header) ≡ false
-    second true e = let z : _≡_ {A = ℕ} 0 1 = cc in absurd (omega arith)
-    second false e = e
+counted-by packet fields header e some =
+    ltb-false packet (3 + header) (neither (ltb header fields) (ltb packet (3 + header)) (rw (ne-eqb packet 0 some) at e) .1)
 
 both-size : (s : List ℕ) (code p d : ℕ) → stampsOf s code ≡ both p d → stampsSize code ≡ 10
 both-size s code p d e = go (eqb code 3) (eqb code 2) e
@@ -55,7 +53,7 @@ stamps-small s code = go (eqb code 3) (eqb code 2)
     go false false = tt
 
 -- ---- the theorem
-pub accepted : (s : List ℕ) (h : Full) → readHeader s ≡ given (full h) → Accepted s h
+pub accepted : EveryAccepted
 accepted s h e =
     let p = passed s h e in
     let fit = fields-fit (packetLengthOf s) (fieldsSize (flagsOf s)) (headerLengthOf s) (p .0 .1 .1 .1 .0) in

@@ -1,7 +1,7 @@
 -- An optional header whose rows before the stamps do not apply reads as its stamps read.
 -- Assumes nothing.
-use mathlib.Core.Path.{_≡_, refl}
-use mathlib.Core.Bool.{Bool, true, false, _||_}
+use mathlib.Core.Path.{_≡_}
+use mathlib.Core.Bool.{false}
 use mathlib.Core.List.{List}
 use Prim.Native.Nat.{ℕ, _+_, _≤_}
 use borrow.Author.Tests.{le-ltb, eq-eqb, ne-eqb, ltb-false}
@@ -12,6 +12,7 @@ use Rattle.pes.specs.Stamps.{Times, stampRefusals, stampsOf}
 use Rattle.pes.specs.Steps.{readStamps, readOptional}
 use Rattle.pes.specs.Header.{Contents, full, fullOf, packetLengthOf, headerLengthOf, flagsOf, codeOf, fieldsSize, isOver}
 use Rattle.rules.proofs.Judged.{mapped, judge-mapped}
+use Rattle.rules.proofs.Test.{neither}
 
 -- a header with these stamps
 abbrev pub withStamps : List ℕ → Times → Contents
@@ -24,10 +25,6 @@ after-lengths s size mark code fit whole =
     rw (le-ltb (length s) 9 size, eq-eqb (bits (getD s 6 0) 6 2) 2 mark, ne-eqb (codeOf (flagsOf s)) 1 code, fit, le-ltb (length s) (9 + headerLengthOf s) whole)
     (judge-mapped (withStamps s) (stampRefusals s (codeOf (flagsOf s))) (stampsOf s (codeOf (flagsOf s))))
 
-or-false : (a b : Bool) → (a || b) ≡ false → a ≡ false
-or-false true b e = e
-or-false false b e = refl
-
 -- fields that are not over the header length are at most as long
 pub fields-fit : (packet fields header : ℕ) → isOver packet fields header ≡ false → fields ≤ header
-fields-fit packet fields header e = ltb-false header fields (or-false (ltb header fields) _ e)
+fields-fit packet fields header e = ltb-false header fields (neither (ltb header fields) _ e .0)

@@ -48,10 +48,10 @@ toldHeader h =
     }
 
 -- the same of the call's answer
-abbrev pub told : Reading → Answer Contents
-told (reading.Value h) = given (full (toldHeader h))
-told (reading.Bare id size) = given (bare id size)
-told (reading.Refused n) = refused n
+abbrev pub toldReading : Reading → Answer Contents
+toldReading (reading.Value h) = given (full (toldHeader h))
+toldReading (reading.Bare id size) = given (bare id size)
+toldReading (reading.Refused n) = refused n
 
 -- ---- where things stand: prefix 3 bytes, stream_id 1, PES_packet_length 2, flags 2, PES_header_data_length 1
 -- stream_id

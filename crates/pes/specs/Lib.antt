@@ -1,5 +1,6 @@
 pub mod Stream
 pub mod Stamps
 pub mod Header
+pub mod Promises
+pub mod Claims
 pub mod Steps
-pub mod Accepted

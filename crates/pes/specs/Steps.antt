@@ -1,4 +1,4 @@
--- What the private functions promise each other, in terms of the definitions.
+-- What the private functions promise each other, in terms of the definitions; no public promise cites it.
 use mathlib.Core.List.{List}
 use Prim.Native.Nat.{ℕ}
 use Rattle.rules.specs.Answer.{Answer, refused, given}

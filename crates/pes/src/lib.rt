@@ -4,7 +4,8 @@ ghost use mathlib.Core.List.{[], _∷_};
 ghost use Prim.Native.Nat.{_≤_};
 ghost use lib.ListN.{getD};
 ghost use Rattle.rules.specs.Number.{numberOf, numberAt};
-ghost use Rattle.pes.specs.Header.{told, fieldsSize, isOver, readHeader};
+ghost use Rattle.pes.specs.Header.{toldReading, fieldsSize, isOver};
+ghost use Rattle.pes.specs.Promises.{ReadsHeader};
 ghost use Rattle.pes.specs.Steps.{readOptional};
 use crate::stamps::Stamped;
 use crate::stamps::Stamps;
@@ -70,7 +71,7 @@ fn is_over(size: u16, fields: u16, header: u8) -> bool
 // The optional header, or the first refusal that applies to it.
 fn optional(bytes: &[u8], id: u8, size: u16) -> Reading
     requires { ⌜ (getD (now bytes) 3 0 ≡ id) × (numberAt (now bytes) 4 2 ≡ size) ⌝ }
-    ensures { λ r. ⌜ told r ≡ readOptional (now (bytes .entry)) ⌝ }
+    ensures { λ r. ⌜ toldReading r ≡ readOptional (now (bytes .entry)) ⌝ }
 {
     if bytes.len() < 9 {
         return Reading::Refused(30);
@@ -110,7 +111,7 @@ fn optional(bytes: &[u8], id: u8, size: u16) -> Reading
 
 // What a PES header says, or the first refusal that applies to it.
 pub fn read(bytes: &[u8]) -> Reading
-    ensures { λ r. ⌜ told r ≡ readHeader (now (bytes .entry)) ⌝ }
+    ensures { λ r. ⌜ ReadsHeader (now (bytes .entry)) r ⌝ }
 {
     if bytes.len() < 6 {
         return Reading::Refused(30);

@@ -3,8 +3,7 @@
 use mathlib.Core.Path.{_≡_, refl, sym, _∙_, ap, ap₂}
 use mathlib.Core.List.{List, [], _∷_, map}
 use Prim.Native.Nat.{ℕ, _+_, _*_, _/_, _%_, _^_, _<_}
-use native.Mathlib.Nat.{zero-add, add-assoc, mul-assoc, mod-one, mod-eq-of-lt, mul-add-div-right, mul-add-mod-self-right}
-use native.Mathlib.Omega.{arith}
+use native.Mathlib.Nat.{mul-assoc, mod-one, mod-eq-of-lt, mul-add-div-right, mul-add-mod-self-right}
 use lib.Arith.{digits-div, digits-lt}
 use lib.Dec.{lit<}
 use lib.Pow.{pow-pos, pow-add, mod-pow-add}

@@ -1,12 +1,12 @@
 -- A table whose answer is made of the answers of one table or two: by cases of the rows.
 -- Assumes nothing.
-use mathlib.Core.Path.{_≡_, refl, sym, _∙_}
+use mathlib.Core.Path.{_≡_, refl, sym, _∙_, ap, ap₂, fun-ext}
 use mathlib.Core.Bool.{Bool, true, false, cond}
 use mathlib.Core.List.{List, [], _∷_, _++_}
 use mathlib.Core.Logic.{⊎-elim}
 use Prim.Native.Nat.{ℕ}
 use Rattle.rules.specs.Answer.{Answer, refused, given}
-use Rattle.rules.specs.Refusal.{Row, judge, Silent, First}
+use Rattle.rules.specs.Refusal.{Row, judge, Silent, First, Exact, ExactCall}
 use Rattle.rules.specs.Walk.{Every}
 use Rattle.rules.proofs.Answer.{given-apart, given-same, refused-same}
 use Rattle.rules.proofs.Refusal
@@ -57,6 +57,14 @@ module _ {ℓ} {A : Type ℓ} (rows : List Row) (x : A) where
   pub refused-by : (n : ℕ) → judge refused rows (given x) ≡ refused n → First n rows
   refused-by n = only refused (given x) rows n (λ m e. given-apart (sym e)) (λ m e. refused-same e)
 
+  -- so a table is exact, both ways
+  pub exact : Exact rows (judge refused rows (given x))
+  exact =
+      record {
+        number = λ n. (refused-by n, Refusal.refused refused (given x) n rows);
+        none = (λ e. given-by (e .0) (e .1) .0, λ s. (x, accepted refused (given x) rows s));
+      }
+
 -- ---- what holds of every refusal that can apply and of the answer holds of the verdict
 module _ {ℓ} {A : Type ℓ} (refuse : ℕ → A) (P : A → Type 0) where
   pub judge-ind : (rows : List Row) (answer : A) → Every (λ row. row .applies ≡ true → P (refuse (row .number))) rows → (Silent rows → P answer)
@@ -79,3 +87,22 @@ judge-seen see refuse (row ∷ rows) answer = go (row .applies) (judge-seen see 
         → see (cond b (refuse (row .number)) (judge refuse rows answer)) ≡ cond b (see (refuse (row .number))) (judge (λ n. see (refuse n)) rows (see answer))
     go true e = refl
     go false e = e
+
+-- a table that goes on in another
+pub judge-append {ℓ} : {A : Type ℓ} (refuse : ℕ → A) (rows later : List Row) (answer : A)
+    → judge refuse (rows ++ later) answer ≡ judge refuse rows (judge refuse later answer)
+judge-append refuse [] later answer = refl
+judge-append refuse (row ∷ rows) later answer = ap (cond (row .applies) (refuse (row .number))) (judge-append refuse rows later answer)
+
+-- ---- a call that leaves more than its answer
+module _ {ℓ} {A B : Type ℓ} (answerOf : A → Answer B) (unchanged : ℕ → A) (tells : (n : ℕ) → answerOf (unchanged n) ≡ refused n)
+    (rows : List Row) (x : A) (b : B) (e : answerOf x ≡ given b) where
+  answer-is : answerOf (judge unchanged rows x) ≡ judge refused rows (given b)
+  answer-is = judge-seen answerOf unchanged rows x ∙ ap₂ (λ (f : ℕ → Answer B) (a : Answer B). judge f rows a) (fun-ext tells) e
+
+  -- a refusal leaves what a refusal of its number leaves
+  still : (n : ℕ) → answerOf (judge unchanged rows x) ≡ refused n → judge unchanged rows x ≡ unchanged n
+  still n q = Refusal.refused unchanged x n rows (refused-by rows b n (sym answer-is ∙ q))
+
+  pub exact-call : ExactCall rows answerOf unchanged (judge unchanged rows x)
+  exact-call = record { table = rw answer-is (exact rows b); still = still }

@@ -4,6 +4,7 @@ pub mod Refusal
 pub mod Judged
 pub mod Write
 pub mod Walk
+pub mod Set
 pub mod Frame
 pub mod Number
 pub mod Part

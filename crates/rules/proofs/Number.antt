@@ -3,13 +3,12 @@
 use mathlib.Core.Path.{_≡_, refl, sym, _∙_, ap, ap₂}
 use mathlib.Core.List.{List, [], _∷_}
 use Prim.Native.Nat.{ℕ, zero, suc, _+_, _*_, _/_, _%_, _^_, _<_, _≤_}
-use native.Mathlib.Nat.{zero-mul, zero-add, mod-lt, mod-one, mod-eq-of-lt, mul-one, add-zero, mul-assoc, mul-comm, add-mul, add-assoc, pow-zero, pow-suc}
+use native.Mathlib.Nat.{zero-mul, zero-add, mod-lt, mod-eq-of-lt, mul-assoc, mul-comm, add-mul, add-assoc, pow-suc}
 use native.Mathlib.Omega.{arith}
 use lib.Arith.{digits-div, digits-mod, digits-lt, mod-mul}
 use lib.Dec.{lit<}
 use lib.ListN.{length, getD, take, drop}
 use lib.Seq.{drop-cons}
-use Rattle.rules.specs.Walk.{Every}
 use Rattle.rules.specs.Number.{numberFrom, numberOf, numberAt, bytesOf, bytesAt, Bytes}
 use Rattle.rules.specs.Write.{put}
 use Rattle.rules.proofs.Walk.{every-take, every-drop}

@@ -81,6 +81,11 @@ verdict (row ∷ rows) = go (row .applies) refl (verdict rows)
         inr (row .number, record { earlier = []; later = rows; split = ap (λ (b : Bool). (row .number when b) ∷ rows) e; silent = tt })
     go false e v = after e v
 
+-- no row of two tables applies: none of either
+pub silent-both : (rows later : List Row) → Silent (rows ++ later) → Silent rows × Silent later
+silent-both [] later s = (tt, s)
+silent-both (row ∷ rows) later s = let both = silent-both rows later (s .1) in ((s .0, both .0), both .1)
+
 -- ---- back from what was given
 module _ {ℓ} {A : Type ℓ} (refuse : ℕ → A) (answer : A) where
   -- where it was no refusal, no row applies and it was the answer

@@ -14,3 +14,7 @@ true-both a b p q = rw (p, q)
 pub neither : (a b : Bool) → (a || b) ≡ false → (a ≡ false) × (b ≡ false)
 neither true b e = absurd (false≢true (sym e))
 neither false b e = (refl, e)
+
+pub and-false : (b : Bool) → (b && false) ≡ false
+and-false true = refl
+and-false false = refl

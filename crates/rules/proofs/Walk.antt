@@ -9,10 +9,11 @@ use native.Mathlib.Numerals.{add-one}
 use native.Mathlib.Omega.{arith}
 use lib.ListN.{length, getD, take, drop, set, length-set, length-map, drop-of-length-le}
 use lib.Seq.{drop-cons, getD-set-same, getD-set-other}
-use native.Mathlib.Decide.{ℕ-discrete}
-use Rattle.rules.specs.Walk.{find, total, count, all, apart, Every}
+use native.Mathlib.Decide.{ℕ-discrete, decLe}
+use Rattle.rules.specs.Walk.{find, total, count, keep, all, apart, Every}
 use Rattle.rules.proofs.Test.{both-true}
-use borrow.Author.Tests.{not-true}
+use borrow.Author.Tests.{not-true, le-leb, lt-leb}
+use lib.Dec.{leb}
 
 module _ {ℓ} {A : Type ℓ} where
   -- ---- find
@@ -243,3 +244,83 @@ mapped-length f l n e = sym (length-map l f) ∙ e
 pub every-map {ℓ ℓ′} : {A : Type ℓ} {B : Type ℓ′} (P : B → Type 0) (f : A → B) (l : List A) → Every (λ (x : A). P (f x)) l → Every P (map f l)
 every-map P f [] h = tt
 every-map P f (x ∷ xs) h = (h .0, every-map P f xs (h .1))
+
+-- ---- one test of two lists
+module _ {ℓ ℓ′} {A : Type ℓ} {B : Type ℓ′} (p : A → Bool) (q : B → Bool) where
+  -- the tests give the same at every index
+  pub tests-same : (l : List A) (m : List B) (d : A) (e : B) → length l ≡ length m → ((i : ℕ) → i < length l → p (getD l i d) ≡ q (getD m i e)) → map p l ≡ map q m
+  tests-same [] [] d e same each = refl
+  tests-same [] (y ∷ m) d e same each = absurd (omega arith)
+  tests-same (x ∷ l) [] d e same each = absurd (omega arith)
+  tests-same (x ∷ l) (y ∷ m) d e same each =
+      ap₂ (λ (b : Bool) (bs : List Bool). b ∷ bs) (each 0 (suc-le-suc zero-le)) (tests-same l m d e (omega arith) (λ i h. each (suc i) (suc-le-suc h)))
+
+-- what is found hangs on the tests alone
+pub find-tests {ℓ} : {A : Type ℓ} (p : A → Bool) (l : List A) → find p l ≡ find (λ (b : Bool). b) (map p l)
+find-tests p [] = refl
+find-tests p (x ∷ xs) = ap (λ (n : ℕ). cond (p x) 0 (suc n)) (find-tests p xs)
+
+leb-suc : (a b : ℕ) → leb (suc a) (suc b) ≡ leb a b
+leb-suc a b = go (decLe a b)
+  where
+    go : Dec (a ≤ b) → leb (suc a) (suc b) ≡ leb a b
+    go (yes h) = le-leb (suc a) (suc b) (omega arith) ∙ sym (le-leb a b h)
+    go (no n) = lt-leb (suc a) (suc b) (omega arith) ∙ sym (lt-leb a b (omega arith))
+
+-- none is found exactly where as many fail as there are
+pub find-full {ℓ} : {A : Type ℓ} (p : A → Bool) (l : List A) → leb (length l) (find p l) ≡ leb (length l) (count (λ x. not (p x)) l)
+find-full p [] = refl
+find-full p (x ∷ xs) = go (p x) (find-full p xs) (count-le (λ y. not (p y)) xs)
+  where
+    go : (b : Bool) → leb (length xs) (find p xs) ≡ leb (length xs) (count (λ y. not (p y)) xs) → count (λ y. not (p y)) xs ≤ length xs
+        → leb (suc (length xs)) (cond b 0 (suc (find p xs))) ≡ leb (suc (length xs)) (cond (not b) 1 0 + count (λ y. not (p y)) xs)
+    go true same most = lt-leb (suc (length xs)) 0 (omega arith) ∙ sym (lt-leb (suc (length xs)) (0 + count (λ y. not (p y)) xs) (omega arith))
+    go false same most = leb-suc (length xs) (find p xs) ∙ same ∙ sym (leb-suc (length xs) (count (λ y. not (p y)) xs)) ∙ ap (leb (suc (length xs))) (omega arith)
+
+-- ---- sums in which all summands but one are nothing
+module _ {ℓ} {A : Type ℓ} (f : A → ℕ) where
+  pub total-none : (l : List A) (d : A) → ((i : ℕ) → i < length l → f (getD l i d) ≡ 0) → total f l ≡ 0
+  total-none [] d none = refl
+  total-none (x ∷ xs) d none =
+      let a = none 0 (suc-le-suc zero-le) in
+      let b = total-none xs d (λ i h. none (suc i) (suc-le-suc h)) in
+      omega arith
+
+  -- where all summands but one are 0 the sum is that one
+  pub total-one : (l : List A) (d : A) (i : ℕ) → i < length l → f d ≡ 0 → ((j : ℕ) → j < length l → (j ≡ i → ⊥) → f (getD l j d) ≡ 0) → total f l ≡ f (getD l i d)
+  total-one l d i h z none =
+      let e = total-set f l i d d h in
+      let rest = total-none (set l i d) d each in
+      omega arith
+    where
+      each : (j : ℕ) → j < length (set l i d) → f (getD (set l i d) j d) ≡ 0
+      each j b = go (ℕ-discrete j i)
+        where
+          go : Dec (j ≡ i) → f (getD (set l i d) j d) ≡ 0
+          go (yes e) = rw e (ap f (getD-set-same l i d d h) ∙ z)
+          go (no n) = ap f (getD-set-other l i j d d n) ∙ none j (rw length-set at b) n
+
+-- what passes where nothing does past the end stands in the list
+pub passes-inside {ℓ} : {A : Type ℓ} (p : A → Bool) (l : List A) (i : ℕ) (d : A) → p d ≡ false → p (getD l i d) ≡ true → i < length l
+passes-inside p [] i d none e = absurd (false≢true (sym none ∙ e))
+passes-inside p (x ∷ xs) zero d none e = suc-le-suc zero-le
+passes-inside p (x ∷ xs) (suc i) d none e = suc-le-suc (passes-inside p xs i d none e)
+
+-- ---- what is kept
+module _ {ℓ} {A : Type ℓ} (p : A → Bool) where
+  pub keep-append : (a b : List A) → keep p (a ++ b) ≡ keep p a ++ keep p b
+  keep-append [] b = refl
+  keep-append (x ∷ xs) b = go (p x) (keep-append xs b)
+    where
+      go : (c : Bool) → keep p (xs ++ b) ≡ keep p xs ++ keep p b → cond c (x ∷ keep p (xs ++ b)) (keep p (xs ++ b)) ≡ cond c (x ∷ keep p xs) (keep p xs) ++ keep p b
+      go true e = ap (λ (l : List A). x ∷ l) e
+      go false e = e
+
+-- what is kept by a test is kept by every weaker one
+pub keep-kept {ℓ} : {A : Type ℓ} (p q : A → Bool) → ((x : A) → q x ≡ true → p x ≡ true) → (l : List A) → keep p (keep q l) ≡ keep q l
+keep-kept p q weaker [] = refl
+keep-kept p q weaker (x ∷ xs) = go (q x) refl (keep-kept p q weaker xs)
+  where
+    go : (b : Bool) → q x ≡ b → keep p (keep q xs) ≡ keep q xs → keep p (cond b (x ∷ keep q xs) (keep q xs)) ≡ cond b (x ∷ keep q xs) (keep q xs)
+    go true e r = ap₂ (λ (c : Bool) (ys : List _). cond c (x ∷ ys) ys) (weaker x e) r
+    go false e r = r

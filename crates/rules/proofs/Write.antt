@@ -1,13 +1,12 @@
 -- The laws of a write: its length, what it holds, what it leaves, and how writes join.
 -- Assumes nothing.
 use mathlib.Core.Path.{_≡_, refl, sym, _∙_, ap}
-use mathlib.Core.List.{List, [], _∷_, _++_, append-assoc}
+use mathlib.Core.List.{List, [], _++_, append-assoc}
 use Prim.Native.Nat.{ℕ, suc, _+_, _≤_, _<_}
 use native.Mathlib.Omega.{arith}
 use native.Mathlib.Nat.{add-zero, add-assoc}
-use native.Mathlib.Numerals.{add-one}
 use lib.ListN.{length, getD, take, drop, set, length-append, length-take, length-drop, take-append-drop, List·getD-append}
-use lib.Seq.{take-at, drop-at, drop-drop, length-take-le, getD-drop, getD-take, sets, sets-eq, paste-suc, take-append-le}
+use lib.Seq.{take-at, drop-at, drop-drop, length-take-le, getD-drop, getD-take, sets, sets-eq, paste-suc}
 use Rattle.rules.specs.Write.{put}
 
 module _ {ℓ} {A : Type ℓ} where

@@ -1,5 +1,4 @@
 -- What a call answers in document 01's terms: a refusal gives its number alone.
-use mathlib.Core.Path.{_≡_}
 use Prim.Native.Nat.{ℕ}
 
 pub data Answer {ℓ} (A : Type ℓ) : Type ℓ where

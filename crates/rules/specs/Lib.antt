@@ -5,3 +5,5 @@ pub mod Walk
 pub mod Number
 pub mod Outcome
 pub mod Lent
+pub mod Set
+pub mod Perhaps

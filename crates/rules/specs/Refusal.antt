@@ -2,7 +2,9 @@
 use mathlib.Core.Path.{_≡_}
 use mathlib.Core.Bool.{Bool, true, false, cond}
 use mathlib.Core.List.{List, [], _∷_, _++_}
+use mathlib.Core.Logic.{_↔_}
 use Prim.Native.Nat.{ℕ}
+use Rattle.rules.specs.Answer.{Answer, refused, given}
 
 -- A row: the refusal's number, and whether it applies
 pub record Row : Type 0 where
@@ -29,3 +31,13 @@ pub record First (n : ℕ) (rows : List Row) : Type 0 where
   pub later : List Row
   pub split : rows ≡ earlier ++ (n when true) ∷ later
   pub silent : Silent earlier
+
+-- A table is exact for an answer: a number is given when, and only when, it is the first that applies, and an answer that is no refusal when, and only when, no row does
+pub record Exact {ℓ} {A : Type ℓ} (rows : List Row) (answer : Answer A) : Type ℓ where
+  pub number : (n : ℕ) → (answer ≡ refused n) ↔ First n rows
+  pub none : ((x : A) × (answer ≡ given x)) ↔ Silent rows
+
+-- The same of a call that leaves more than its answer: its table is exact, and where it is refused it leaves everything as it was
+pub record ExactCall {ℓ} {A B : Type ℓ} (rows : List Row) (answerOf : A → Answer B) (unchanged : ℕ → A) (left : A) : Type ℓ where
+  pub table : Exact rows (answerOf left)
+  pub still : (n : ℕ) → answerOf left ≡ refused n → left ≡ unchanged n

@@ -1,6 +1,5 @@
 -- Searching, counting and adding up over a list.
-use mathlib.Core.Path.{_≡_}
-use mathlib.Core.Bool.{Bool, true, false, cond, _&&_, not}
+use mathlib.Core.Bool.{Bool, true, cond, _&&_, not}
 use mathlib.Core.List.{List, [], _∷_}
 use Prim.Native.Nat.{ℕ, suc, _+_}
 
@@ -18,6 +17,11 @@ module _ {ℓ} {A : Type ℓ} where
   -- how many elements pass
   abbrev pub count : (A → Bool) → List A → ℕ
   count p = total (λ x. cond (p x) 1 0)
+
+  -- those that pass, in their order
+  abbrev pub keep : (A → Bool) → List A → List A
+  keep p [] = []
+  keep p (x ∷ xs) = cond (p x) (x ∷ keep p xs) (keep p xs)
 
   -- every element passes
   abbrev pub all : (A → Bool) → List A → Bool

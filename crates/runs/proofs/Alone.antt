@@ -1,211 +1,303 @@
--- Whether a packet of a PID that has an area is accepted hangs on the call alone, and no other call adds to what an open filter is owed.
+-- What a filter is owed goes on by the packets of its PID until its close, and no other call adds to it or takes from it.
 -- Assumes nothing.
 use mathlib.Core.Path.{_≡_, refl, sym, _∙_, ap, ap₂}
-use mathlib.Core.Bool.{Bool, true, false, cond, not, _||_, false≢true}
+use mathlib.Core.Bool.{Bool, true, false, cond, not, _||_}
 use mathlib.Core.List.{List, [], _∷_, _++_}
-use Prim.Native.Nat.{ℕ, suc, _<_}
-use native.Mathlib.Decide.{decLt}
+use Prim.Native.Nat.{ℕ, suc, _+_}
 use native.Mathlib.Omega.{arith}
-use borrow.Author.Tests.{eqb-true, eq-eqb, ne-eqb, lt-leb}
-use lib.Dec.{eqb, ltb}
+use borrow.Author.Tests.{eqb-true, ne-eqb, lt-ltb}
+use lib.Dec.{eqb}
 use lib.ListN.{length}
 use Rattle.rules.specs.Answer.{Answer, refused, given}
-use Rattle.rules.specs.Refusal.{Row, judge, _when_}
-use Rattle.rules.proofs.Walk.{find-first}
-use Rattle.packet.specs.Perhaps.{there}
-use Rattle.packet.specs.Packet.{packetRefusals}
-use Rattle.gather.specs.Rule.{Packet, leavesNone}
-use Rattle.driver.specs.State.{hasPid, areaOf, freeArea, freePlaceOf}
-use Rattle.driver.specs.Packet.{After, Said, wanted, unwanted, still, contents, pidOf, payloadOf, firstRefusals, lastRefusals, afterReading, afterTests, taken, outcome, packetOf}
-use Rattle.driver.specs.declared.State.{State}
+use Rattle.rules.specs.Perhaps.{there}
+use Rattle.rules.specs.Refusal.{Row, judge}
+use Rattle.rules.specs.Walk.{keep}
 use Rattle.rules.proofs.Judged.{judge-seen}
-use Rattle.driver.proofs.Found.{has-pid}
-use Rattle.driver.proofs.Ways.{open-ind, close-ind, packet-ind}
-use Rattle.rules.proofs.Test.{neither}
-use Rattle.runs.specs.Run.{Call, openCall, closeCall, packetCall, World, Event, openEvent, closeEvent, packetEvent, after, event, runFrom, logFrom}
-use Rattle.runs.specs.History.{Opening, Accepted, opened, closed, packet, acceptedBy, accepted, openingOf, isClosed, packetFrom, packets, since, handed, completed}
-use Rattle.runs.specs.Demand.{IsOpen, packetsOf}
-use Rattle.runs.proofs.Ledger.{areaAt, filterAt, Ledger, Stands, stood, still-taken}
-use Rattle.runs.proofs.Steps.{run-ledger, fine, agrees}
+use Rattle.rules.proofs.Walk.{keep-append, keep-kept}
+use Rattle.gather.specs.Rule.{Packet}
+use Rattle.driver.specs.Open.{Place}
+use Rattle.driver.specs.Packet.{Said, unwanted, pidOf, packetFrom, report}
+use Rattle.runs.specs.Run.{Call, openCall, closeCall, packetCall, World, Event, openEvent, closeEvent, packetEvent, ours}
+use Rattle.runs.specs.History.{Opening, Accepted, opened, closed, packet, acceptedBy, numbersGiven, opens, closes, openingOf, isClosed, hasArea, packets, since, upToClose, handed, completed}
+use Rattle.runs.specs.Answers.{lowestFree, openRows, isGiven, earlyRows, lateRows, outcomeAfter, placesAfter, written, packetAnswer, answerTo}
+use Rattle.runs.specs.Demand.{worldAfter, history, concerns, isOwn}
+use Rattle.runs.proofs.Ledger.{filterAt, IsOpen, Ledger, all-before, stood, busy, still-taken}
+use Rattle.runs.proofs.Steps.{ledger}
+use Rattle.runs.proofs.Others.{thin, thin-opening, thin-packets, thin-since, thin-up, event-is, history-thin}
 
--- what an open filter is owed hangs on two things: how many packets came since its open, and which since the area was taken
+-- what a filter is owed: how many packets came since its open, and which since the area was taken, up to its close
 abbrev Owed : Type 0
 Owed = ℕ × List Packet
 
+abbrev owedOf : Opening → List Accepted → Owed
+owedOf f h = (since f h, packets (f .pid) h)
+
 abbrev owed : Opening → List Accepted → Owed
-owed f h = (since f h, packets (f .pid) h)
+owed f h = owedOf f (upToClose (f .number) h)
 
--- the tests of a packet call that look at the call alone
-abbrev early : List ℕ → List ℕ → List Row
-early p out = (3 when ltb (length out) 4278) ∷ packetRefusals p
+-- whether it is closed, and what it is owed
+abbrev Status : Type 0
+Status = Bool × Owed
 
-abbrev late : List ℕ → List Row
-late p = (10 when not (eqb (contents p .scrambling) 0)) ∷ (11 when leavesNone (contents p .unitStart) (payloadOf p)) ∷ []
+abbrev status : Opening → List Accepted → Status
+status f h = (isClosed (f .number) h, owed f h)
 
--- one packet more, where it passes them
+-- one packet more, where it passes the tests that look at the call alone
 abbrev offer : List ℕ → List ℕ → Owed → Owed
-offer p out x = judge (λ n. x) (early p out) (judge (λ n. x) (late p) (suc (x .0), packetFrom p ∷ x .1))
+offer p lent x = judge (λ n. x) (earlyRows p lent) (judge (λ n. x) (lateRows p) (suc (x .0), packetFrom p ∷ x .1))
 
--- the same for any call
-abbrev offerBy : ℕ → Call → Owed → Owed
-offerBy pid (openCall q) x = x
-offerBy pid (closeCall number) x = x
-offerBy pid (packetCall p out) x = cond (eqb (pidOf p) pid) (offer p out x) x
+-- what a call makes of it
+abbrev goes : Opening → Call → Status → Status
+goes f (openCall q) x = x
+goes f (closeCall number) x = (eqb number (f .number) || x .0, x .1)
+goes f (packetCall p lent) x = cond (eqb (pidOf p) (f .pid)) (x .0, cond (x .0) (x .1) (offer p lent (x .1))) x
 
-abbrev offers : ℕ → List Call → Owed → Owed
-offers pid [] x = x
-offers pid (c ∷ cs) x = offerBy pid c (offers pid cs x)
+abbrev goesBy : Opening → List Call → Status → Status
+goesBy f [] x = x
+goesBy f (c ∷ cs) x = goes f c (goesBy f cs x)
 
--- leaving out all but the packets of the PID changes nothing of it
-offers-same : (pid : ℕ) (cs : List Call) (x : Owed) → offers pid (packetsOf pid cs) x ≡ offers pid cs x
-offers-same pid [] x = refl
-offers-same pid (openCall q ∷ cs) x = offers-same pid cs x
-offers-same pid (closeCall number ∷ cs) x = offers-same pid cs x
-offers-same pid (packetCall p out ∷ cs) x = go (eqb (pidOf p) pid) refl (offers-same pid cs x)
+-- a call that is not its own makes nothing of it
+not-own : (f : Opening) (c : Call) (x : Status) → isOwn f c ≡ false → goes f c x ≡ x
+not-own f (openCall q) x e = refl
+not-own f (closeCall number) x e = rw e
+not-own f (packetCall p lent) x e = rw e
+
+own-alone : (f : Opening) (cs : List Call) (x : Status) → goesBy f (keep (isOwn f) cs) x ≡ goesBy f cs x
+own-alone f [] x = refl
+own-alone f (c ∷ cs) x = go (isOwn f c) refl (own-alone f cs x)
   where
-    go : (b : Bool) → eqb (pidOf p) pid ≡ b → offers pid (packetsOf pid cs) x ≡ offers pid cs x
-        → offers pid (cond b (packetCall p out ∷ packetsOf pid cs) (packetsOf pid cs)) x ≡ cond b (offer p out (offers pid cs x)) (offers pid cs x)
-    go true e same = rw e (ap (offer p out) same)
-    go false e same = same
+    go : (b : Bool) → isOwn f c ≡ b → goesBy f (keep (isOwn f) cs) x ≡ goesBy f cs x
+        → goesBy f (cond b (c ∷ keep (isOwn f) cs) (keep (isOwn f) cs)) x ≡ goes f c (goesBy f cs x)
+    go true e q = ap (goes f c) q
+    go false e q = q ∙ sym (not-own f c (goesBy f cs x) e)
 
-module _ (w : World) (h : List Accepted) (l : Ledger w h) (f : Opening) (i : IsOpen f h) where
-  abbrev s : State
-  s = w .state
+-- a verdict that is the same either way
+judge-same {ℓ} : {A : Type ℓ} (rows : List Row) (x y : A) → y ≡ x → judge (λ n. x) rows y ≡ x
+judge-same [] x y e = e
+judge-same (row ∷ rows) x y e = go (row .applies) (judge-same rows x y e)
+  where
+    go : (b : Bool) → judge (λ n. x) rows y ≡ x → cond b x (judge (λ n. x) rows y) ≡ x
+    go true q = refl
+    go false q = q
 
-  st : Stands (w .state) f
-  st = stood w h l f i
+-- a packet's answer, seen through a function
+packet-seen {ℓ} : {A : Type ℓ} (see : Event → A) (h : List Accepted) (p lent : List ℕ)
+    → see (packetAnswer h p lent)
+    ≡ judge (λ n. see (packetEvent p lent (refused n) lent)) (earlyRows p lent)
+    (cond (hasArea (pidOf p) h)
+    (judge (λ n. see (packetEvent p lent (refused n) lent)) (lateRows p)
+    (see (packetEvent p lent (given (report (outcomeAfter h p) (placesAfter h (pidOf p)))) (written (outcomeAfter h p) lent))))
+    (see (packetEvent p lent (given unwanted) lent)))
+packet-seen see h p lent =
+    judge-seen see refuse (earlyRows p lent) _ ∙ ap (judge (λ n. see (refuse n)) (earlyRows p lent)) (either (hasArea (pidOf p) h) ∙ ap (λ x. cond (hasArea (pidOf p) h) x (see none)) (judge-seen see refuse (lateRows p) takes))
+  where
+    refuse : ℕ → Event
+    refuse n = packetEvent p lent (refused n) lent
 
-  -- the filter's PID has an area
-  has-area : (pid : ℕ) → pid ≡ f .pid → areaOf pid (s .areas) < length (s .areas)
-  has-area pid e = go (decLt (areaOf pid (s .areas)) (length (s .areas)))
-    where
-      has : hasPid pid (areaAt (w .state) (filterAt (w .state) (f .place) .area)) ≡ true
-      has = has-pid pid (areaAt s (filterAt s (f .place) .area)) (st .used) (st .pid ∙ sym e)
+    takes : Event
+    takes = packetEvent p lent (given (report (outcomeAfter h p) (placesAfter h (pidOf p)))) (written (outcomeAfter h p) lent)
 
-      go : Dec (areaOf pid (s .areas) < length (s .areas)) → areaOf pid (s .areas) < length (s .areas)
-      go (yes b) = b
-      go (no n) =
-          let in-list = st .area in
-          absurd (false≢true (sym (find-first (hasPid pid) (s .areas) freeArea (filterAt s (f .place) .area) (omega arith)) ∙ has))
+    none : Event
+    none = packetEvent p lent (given unwanted) lent
 
-  -- whether a packet of the PID is accepted hangs on the call alone
-  own-packet : (p out : List ℕ) → pidOf p ≡ f .pid → owed f (acceptedBy (event w (packetCall p out)) ++ h) ≡ offer p out (owed f h)
-  unfolding packetOf
-  own-packet p out e =
-      judge-seen see (λ n. still s (w .store) out (refused n)) (firstRefusals s p (w .store) out) (afterReading s own p (w .store) out)
-      ∙ ap₂ (λ (b c : Bool). cond (not b) x (cond (not c || ltb (length out) 4278) x (judge (λ n. x) (packetRefusals p) (see (afterReading s own p (w .store) out)))))
-      (fine w h l) (eq-eqb (length (w .store)) 32768 (l .whole))
-      ∙ ap (judge (λ n. x) (early p out)) inner
-    where
-      x : Owed
-      x = owed f h
+    either : (b : Bool) → see (cond b (judge refuse (lateRows p) takes) none) ≡ cond b (see (judge refuse (lateRows p) takes)) (see none)
+    either true = refl
+    either false = refl
 
-      own : ℕ
-      own = areaOf (pidOf p) (w .state .areas)
+-- where an accepted packet changes nothing of what is seen, no packet does
+packet-unseen {ℓ} : {A : Type ℓ} (see : List Accepted → A) (h : List Accepted) (p lent : List ℕ)
+    → ((r : Said) (out : List ℕ) → see (packet p lent r out ∷ h) ≡ see h) → see (acceptedBy (packetAnswer h p lent) ++ h) ≡ see h
+packet-unseen see h p lent same =
+    packet-seen (λ (e : Event). see (acceptedBy e ++ h)) h p lent
+    ∙ judge-same (earlyRows p lent) (see h) _ (go (hasArea (pidOf p) h) (judge-same (lateRows p) (see h) _ (same _ _)))
+  where
+    go : (b : Bool) {x : _} → x ≡ see h → cond b x (see h) ≡ see h
+    go true e = e
+    go false e = refl
 
-      see : After → Owed
-      see o = owed f (acceptedBy (packetEvent p out (o .answer) (o .out)) ++ h)
-
-      inner : see (afterReading (w .state) (areaOf (pidOf p) (w .state .areas)) p (w .store) out) ≡ judge (λ n. owed f h) (late p) (suc (since f h), packetFrom p ∷ packets (f .pid) h)
-      inner =
-          ap (λ (b : Bool). see (cond b (still s (w .store) out (given unwanted)) (afterTests s own p (w .store) out))) (lt-leb (length (s .areas)) own (has-area (pidOf p) e))
-          ∙ judge-seen see (λ n. still s (w .store) out (refused n)) (lastRefusals s own p (w .store)) (taken s own (outcome s own p (w .store)) (w .store) out)
-          ∙ ap (λ (b : Bool). cond b x (judge (λ n. x) (late p) (see (taken s own (outcome s own p (w .store)) (w .store) out)))) (agrees w h l (pidOf p) (has-area (pidOf p) e))
-          ∙ ap (judge (λ n. x) (late p)) (ap (λ (b : Bool). (cond b (suc (since f h)) (since f h), cond b (packetFrom p ∷ packets (f .pid) h) (packets (f .pid) h))) (eq-eqb (pidOf p) (f .pid) e))
-
-  -- what an open of a PID makes next
-  abbrev given-to : ℕ → Opening
-  given-to pid = record { number = s .next; pid = pid; place = freePlaceOf (s .filters) }
-
+module _ (w : World) (h : List Accepted) (l : Ledger w h) (f : Opening) (came : openingOf (f .number) h ≡ there f) where
   -- its number is not given again
-  not-next : s .next ≡ f .number → ⊥
-  not-next e = let b = l .given (f .number) f (i .opened) .1 in omega arith
+  not-next : numbersGiven h + 1 ≡ f .number → ⊥
+  not-next e = let b = l .given (f .number) f came .1 in let n = l .numbers in omega arith
 
-  -- no other call adds to it
-  pub step-owed : (c : Call) → owed f (acceptedBy (event w c) ++ h) ≡ offerBy (f .pid) c (owed f h)
-  step-owed (openCall pid) =
-      open-ind s pid (λ o. owed f (acceptedBy (openEvent pid (o .answer)) ++ h) ≡ owed f h) (λ n a b. refl)
-      (λ o.
-      ap₂ (λ (k : ℕ) (ps : List Packet). (k, ps)) (ap (λ (b : Bool). cond b 0 (since f h)) (ne-eqb (s .next) (f .number) not-next))
-      (still-taken w h l f (given-to pid) i))
-  step-owed (closeCall number) = close-ind s number (λ o. owed f (acceptedBy (closeEvent number (o .answer)) ++ h) ≡ owed f h) (λ n a b. refl) (λ c. refl)
-  step-owed (packetCall p out) = go (eqb (pidOf p) (f .pid)) refl
-    where
-      go : (b : Bool) → eqb (pidOf p) (f .pid) ≡ b → owed f (acceptedBy (event w (packetCall p out)) ++ h) ≡ cond b (offer p out (owed f h)) (owed f h)
-      go true e = own-packet p out (eqb-true (pidOf p) (f .pid) e)
-      go false e =
-          packet-ind s p (w .store) out (λ o. owed f (acceptedBy (packetEvent p out (o .answer) (o .out)) ++ h) ≡ owed f h) (λ n a b. refl) (λ b. refl)
-          (λ k. ap (λ (b : Bool). (cond b (suc (since f h)) (since f h), cond b (packetFrom p ∷ packets (f .pid) h) (packets (f .pid) h))) e)
+  -- a new filter
+  abbrev new : ℕ → Opening
+  new pid = record { number = numbersGiven h + 1; pid = pid; place = lowestFree h }
 
-  -- the open that gave its number stays the same
-  pub step-opened : (c : Call) → openingOf (f .number) (acceptedBy (event w c) ++ h) ≡ openingOf (f .number) h
+  -- ---- its open stays
+  pub step-opened : (c : Call) → openingOf (f .number) (acceptedBy (answerTo h c) ++ h) ≡ there f
   step-opened (openCall pid) =
-      open-ind s pid (λ o. openingOf (f .number) (acceptedBy (openEvent pid (o .answer)) ++ h) ≡ openingOf (f .number) h) (λ n a b. refl)
-      (λ o. ap (λ (b : Bool). cond b (there (given-to pid)) (openingOf (f .number) h)) (ne-eqb (s .next) (f .number) not-next))
-  step-opened (closeCall number) =
-      close-ind s number (λ o. openingOf (f .number) (acceptedBy (closeEvent number (o .answer)) ++ h) ≡ openingOf (f .number) h) (λ n a b. refl) (λ c. refl)
-  step-opened (packetCall p out) =
-      packet-ind s p (w .store) out (λ o. openingOf (f .number) (acceptedBy (packetEvent p out (o .answer) (o .out)) ++ h) ≡ openingOf (f .number) h)
-      (λ n a b. refl) (λ b. refl) (λ k. refl)
-
--- what is not closed after an event was not closed before it
-unclosed-before : (n : ℕ) (e : Event) (h : List Accepted) → isClosed n (acceptedBy e ++ h) ≡ false → isClosed n h ≡ false
-unclosed-before n (openEvent pid (given a)) h k = k
-unclosed-before n (openEvent pid (refused m)) h k = k
-unclosed-before n (closeEvent number (given u)) h k = neither (eqb number n) (isClosed n h) k .1
-unclosed-before n (closeEvent number (refused m)) h k = k
-unclosed-before n (packetEvent p lent (given (wanted r)) out) h k = k
-unclosed-before n (packetEvent p lent (given unwanted) out) h k = k
-unclosed-before n (packetEvent p lent (refused m) out) h k = k
-
--- a packet closes nothing
-packet-closes : (n : ℕ) (p lent : List ℕ) (a : Answer Said) (out : List ℕ) (h : List Accepted) → isClosed n (acceptedBy (packetEvent p lent a out) ++ h) ≡ isClosed n h
-packet-closes n p lent (given (wanted r)) out h = refl
-packet-closes n p lent (given unwanted) out h = refl
-packet-closes n p lent (refused m) out h = refl
-
-module _ (w : World) (log : List Event) (l : Ledger w (accepted log)) (f : Opening) (came : openingOf (f .number) (accepted log) ≡ there f) where
-  -- a filter that is open after a run was open all along, and is owed what the calls offered
-  abbrev Held : List Call → Type 0
-  Held cs = IsOpen f (accepted (logFrom w cs ++ log)) × (owed f (accepted (logFrom w cs ++ log)) ≡ offers (f .pid) cs (owed f (accepted log)))
-
-  pub run-owed : (cs : List Call) → isClosed (f .number) (accepted (logFrom w cs ++ log)) ≡ false → Held cs
-  run-owed [] k = (record { opened = came; kept = k }, refl)
-  run-owed (c ∷ cs) k = go (run-owed cs (unclosed-before (f .number) (event (runFrom w cs) c) (accepted (logFrom w cs ++ log)) k))
+      judge-seen (λ (a : Answer Place). openingOf (f .number) (acceptedBy (openEvent pid a) ++ h)) refused (openRows h pid) (given (record { number = numbersGiven h + 1; place = lowestFree h }))
+      ∙ judge-same (openRows h pid) (openingOf (f .number) h) _ (ap (λ (b : Bool). cond b (there (new pid)) (openingOf (f .number) h)) (ne-eqb (numbersGiven h + 1) (f .number) not-next))
+      ∙ came
+  step-opened (closeCall number) = go (isGiven h number)
     where
-      go : Held cs → Held (c ∷ cs)
-      go (i, e) =
-          let was = run-ledger w log l cs in (
-            record { opened = step-opened (runFrom w cs) (accepted (logFrom w cs ++ log)) was f i c ∙ i .opened; kept = k },
-            step-owed (runFrom w cs) (accepted (logFrom w cs ++ log)) was f i c ∙ ap (offerBy (f .pid) c) e,
-          )
+      go : (b : Bool) → openingOf (f .number) (acceptedBy (closeEvent number (cond (not b) (refused 16) (given tt))) ++ h) ≡ there f
+      go true = came
+      go false = came
+  step-opened (packetCall p lent) = packet-unseen (openingOf (f .number)) h p lent (λ r out. refl) ∙ came
 
-  -- packets alone close nothing
-  kept-open : (cs : List Call) → isClosed (f .number) (accepted (logFrom w (packetsOf (f .pid) cs) ++ log)) ≡ isClosed (f .number) (accepted log)
-  kept-open [] = refl
-  kept-open (openCall q ∷ cs) = kept-open cs
-  kept-open (closeCall number ∷ cs) = kept-open cs
-  kept-open (packetCall p out ∷ cs) = go (eqb (pidOf p) (f .pid)) (kept-open cs)
+  -- ---- its status
+  abbrev n : ℕ
+  n = f .number
+
+  -- a filter that is open is owed what came up to now
+  up-to-now : isClosed (f .number) h ≡ false → owedOf f h ≡ owed f h
+  up-to-now k = ap (owedOf f) (sym (all-before n h k))
+
+  is-open : isClosed (f .number) h ≡ false → IsOpen f h
+  is-open k = record { opened = came; kept = k }
+
+  open-status : (pid : ℕ) → status f (opened (new pid) ∷ h) ≡ status f h
+  open-status pid = go (isClosed n h) refl
     where
-      go : (b : Bool) → isClosed (f .number) (accepted (logFrom w (packetsOf (f .pid) cs) ++ log)) ≡ isClosed (f .number) (accepted log)
-          → isClosed (f .number) (accepted (logFrom w (cond b (packetCall p out ∷ packetsOf (f .pid) cs) (packetsOf (f .pid) cs)) ++ log)) ≡ isClosed (f .number) (accepted log)
-      go true e =
-          packet-closes (f .number) p out (packetOf (runFrom w (packetsOf (f .pid) cs) .state) p (runFrom w (packetsOf (f .pid) cs) .store) out .answer)
-          (packetOf (runFrom w (packetsOf (f .pid) cs) .state) p (runFrom w (packetsOf (f .pid) cs) .store) out .out) (accepted (logFrom w (packetsOf (f .pid) cs) ++ log))
-          ∙ e
-      go false e = e
+      go : (b : Bool) → isClosed n h ≡ b → status f (opened (new pid) ∷ h) ≡ status f h
+      go true k = ap (λ (b : Bool). (isClosed n h, owedOf f (cond b (upToClose n h) (opened (new pid) ∷ h)))) k
+      go false k =
+          ap (λ (b : Bool). (isClosed n h, owedOf f (cond b (upToClose n h) (opened (new pid) ∷ h)))) k
+          ∙ ap₂ (λ (m : ℕ) (ps : List Packet). (isClosed n h, (m, ps))) (ap (λ (b : Bool). cond b 0 (since f h)) (ne-eqb (numbersGiven h + 1) n not-next))
+          (still-taken w h l f (new pid) (is-open k))
+          ∙ ap (λ (o : Owed). (isClosed n h, o)) (up-to-now k)
 
-  first-unclosed : (cs : List Call) → isClosed (f .number) (accepted (logFrom w cs ++ log)) ≡ false → isClosed (f .number) (accepted log) ≡ false
-  first-unclosed [] k = k
-  first-unclosed (c ∷ cs) k = first-unclosed cs (unclosed-before (f .number) (event (runFrom w cs) c) (accepted (logFrom w cs ++ log)) k)
+  -- one close more, of its number or another
+  closed-status : (number : ℕ) (b : Bool) → isClosed (f .number) h ≡ b → (c : Bool) → eqb number (f .number) ≡ c
+      → owedOf f (cond b (upToClose (f .number) h) (cond c h (closed number ∷ h))) ≡ owed f h
+  closed-status number true k c e = refl
+  closed-status number false k true e = up-to-now k
+  closed-status number false k false e = up-to-now k
 
-  pub handed-alone : (later : List Call) → IsOpen f (accepted (logFrom w later ++ log))
-      → handed f (accepted (logFrom w (packetsOf (f .pid) later) ++ log)) ≡ handed f (accepted (logFrom w later ++ log))
-  handed-alone later i =
-      let whole = run-owed later (i .kept) in
-      let less = run-owed (packetsOf (f .pid) later) (kept-open later ∙ first-unclosed later (i .kept)) in
-      let same : owed f (accepted (logFrom w (packetsOf (f .pid) later) ++ log)) ≡ owed f (accepted (logFrom w later ++ log)) =
-      less .1 ∙ offers-same (f .pid) later (owed f (accepted log)) ∙ sym (whole .1) in
-      run-ledger w log l (packetsOf (f .pid) later) .hands f (less .0)
-      ∙ ap (λ (x : Owed). completed (x .0) (x .1)) same
-      ∙ sym (run-ledger w log l later .hands f (whole .0))
+  close-status : (number : ℕ) → status f (acceptedBy (answerTo h (closeCall number)) ++ h) ≡ goes f (closeCall number) (status f h)
+  close-status number = go (isGiven h number) refl
+    where
+      -- a number that is not given is another, or was closed
+      refused-same : isGiven h number ≡ false → (c : Bool) → eqb number n ≡ c → isClosed n h ≡ (c || isClosed n h)
+      refused-same g false e = refl
+      refused-same g true e = unless-given (isClosed n h) refl
+        where
+          unless-given : (b : Bool) → isClosed n h ≡ b → b ≡ true
+          unless-given true k = refl
+          unless-given false k =
+              let same = eqb-true number n e in
+              let is : isGiven h number ≡ true = rw (same, came, k) in
+              sym g ∙ is
+
+      go : (b : Bool) → isGiven h number ≡ b → status f (acceptedBy (closeEvent number (cond (not b) (refused 16) (given tt))) ++ h) ≡ goes f (closeCall number) (status f h)
+      go true g = ap (λ (o : Owed). (eqb number n || isClosed n h, o)) (closed-status number (isClosed n h) refl (eqb number n) refl)
+      go false g = ap (λ (b : Bool). (b, owed f h)) (refused-same g (eqb number n) refl)
+
+  -- a packet that is accepted
+  abbrev one-more : Bool → List ℕ → Owed → Owed
+  one-more b p o = (cond b (suc (o .0)) (o .0), cond b (packetFrom p ∷ o .1) (o .1))
+
+  packet-status : (p lent : List ℕ) → status f (acceptedBy (packetAnswer h p lent) ++ h) ≡ goes f (packetCall p lent) (status f h)
+  packet-status p lent = go (eqb (pidOf p) (f .pid)) refl (isClosed n h) refl
+    where
+      -- after its close, and of another PID, nothing changes
+      late-one : isClosed n h ≡ true → status f (acceptedBy (packetAnswer h p lent) ++ h) ≡ status f h
+      late-one k = packet-unseen (status f) h p lent (λ r out. ap (λ (b : Bool). (isClosed n h, owedOf f (cond b (upToClose n h) (packet p lent r out ∷ h)))) k)
+
+      other-one : eqb (pidOf p) (f .pid) ≡ false → isClosed n h ≡ false → status f (acceptedBy (packetAnswer h p lent) ++ h) ≡ status f h
+      other-one e k =
+          packet-unseen (status f) h p lent
+          (λ r out.
+          ap (λ (b : Bool). (isClosed n h, owedOf f (cond b (upToClose n h) (packet p lent r out ∷ h)))) k
+          ∙ ap (λ (b : Bool). (isClosed n h, one-more b p (owedOf f h))) e
+          ∙ ap (λ (o : Owed). (isClosed n h, o)) (up-to-now k))
+
+      own-one : eqb (pidOf p) (f .pid) ≡ true → isClosed n h ≡ false → status f (acceptedBy (packetAnswer h p lent) ++ h) ≡ (isClosed n h, offer p lent (owed f h))
+      own-one e k =
+          packet-seen (λ (x : Event). status f (acceptedBy x ++ h)) h p lent
+          ∙ ap (λ (b : Bool). judge (λ m. status f h) (earlyRows p lent) (cond b (judge (λ m. status f h) (lateRows p) (status f (packet p lent r out ∷ h))) (status f h))) has
+          ∙ ap (λ (x : Status). judge (λ m. status f h) (earlyRows p lent) (judge (λ m. status f h) (lateRows p) x)) taken-one
+          ∙ ap (judge (λ m. status f h) (earlyRows p lent)) (sym (judge-seen (λ (o : Owed). (isClosed n h, o)) (λ m. owed f h) (lateRows p) (one-more true p (owed f h))))
+          ∙ sym (judge-seen (λ (o : Owed). (isClosed n h, o)) (λ m. owed f h) (earlyRows p lent) _)
+        where
+          r : Said
+          r = report (outcomeAfter h p) (placesAfter h (pidOf p))
+
+          out : List ℕ
+          out = written (outcomeAfter h p) lent
+
+          has : hasArea (pidOf p) h ≡ true
+          has =
+              let st = stood w h l f (is-open k) in
+              let some = busy w h l (filterAt (w .state) (f .place) .area) (f .pid) (st .area) (st .used) (st .pid) in
+              let even = l .balance (f .pid) in
+              ap (λ (q : ℕ). hasArea q h) (eqb-true (pidOf p) (f .pid) e) ∙ lt-ltb (closes (f .pid) h) (opens (f .pid) h) (omega arith)
+
+          taken-one : status f (packet p lent r out ∷ h) ≡ (isClosed n h, one-more true p (owed f h))
+          taken-one =
+              ap (λ (b : Bool). (isClosed n h, owedOf f (cond b (upToClose n h) (packet p lent r out ∷ h)))) k
+              ∙ ap (λ (b : Bool). (isClosed n h, one-more b p (owedOf f h))) e
+              ∙ ap (λ (o : Owed). (isClosed n h, one-more true p o)) (up-to-now k)
+
+      go : (b : Bool) → eqb (pidOf p) (f .pid) ≡ b → (d : Bool) → isClosed n h ≡ d
+          → status f (acceptedBy (packetAnswer h p lent) ++ h) ≡ cond b (isClosed n h, cond (isClosed n h) (owed f h) (offer p lent (owed f h))) (status f h)
+      go true e true k = late-one k ∙ sym (ap (λ (d : Bool). (isClosed n h, cond d (owed f h) (offer p lent (owed f h)))) k)
+      go true e false k = own-one e k ∙ sym (ap (λ (d : Bool). (isClosed n h, cond d (owed f h) (offer p lent (owed f h)))) k)
+      go false e true k = late-one k
+      go false e false k = other-one e k
+
+  pub step-status : (c : Call) → status f (acceptedBy (answerTo h c) ++ h) ≡ goes f c (status f h)
+  step-status (openCall pid) =
+      judge-seen (λ (a : Answer Place). status f (acceptedBy (openEvent pid a) ++ h)) refused (openRows h pid) (given (record { number = numbersGiven h + 1; place = lowestFree h }))
+      ∙ judge-same (openRows h pid) (status f h) _ (open-status pid)
+  step-status (closeCall number) = close-status number
+  step-status (packetCall p lent) = packet-status p lent
+
+-- ---- over a run
+own-concerns : (f : Opening) (c : Call) → isOwn f c ≡ true → concerns (f .pid) c ≡ true
+own-concerns f (openCall q) e = refl
+own-concerns f (closeCall number) e = refl
+own-concerns f (packetCall p lent) e = e
+
+thin-owed : (f : Opening) (h : List Accepted) → owed f (thin (f .pid) h) ≡ owed f h
+thin-owed f h =
+    ap (owedOf f) (thin-up (f .pid) (f .number) h)
+    ∙ ap₂ (λ (m : ℕ) (ps : List Packet). (m, ps)) (thin-since f (upToClose (f .number) h)) (thin-packets (f .pid) (upToClose (f .number) h))
+
+module _ (store : List ℕ) (whole : length store ≡ 32768) (f : Opening) (before : List Call) (came : openingOf (f .number) (history ours store before) ≡ there f) where
+  pub run-opened : (later : List Call) → openingOf (f .number) (history ours store (later ++ before)) ≡ there f
+  run-opened [] = came
+  run-opened (c ∷ later) =
+      ap (λ (e : Event). openingOf (f .number) (acceptedBy e ++ history ours store (later ++ before))) (event-is store whole (later ++ before) c)
+      ∙ step-opened (worldAfter ours store (later ++ before)) (history ours store (later ++ before)) (ledger store whole (later ++ before)) f (run-opened later) c
+
+  run-status : (later : List Call) → status f (history ours store (later ++ before)) ≡ goesBy f later (status f (history ours store before))
+  run-status [] = refl
+  run-status (c ∷ later) =
+      ap (λ (e : Event). status f (acceptedBy e ++ history ours store (later ++ before))) (event-is store whole (later ++ before) c)
+      ∙ step-status (worldAfter ours store (later ++ before)) (history ours store (later ++ before)) (ledger store whole (later ++ before)) f (run-opened later) c
+      ∙ ap (goes f c) (run-status later)
+
+  module _ (later : List Call) where
+    -- the later calls that count, and the run with them alone
+    abbrev own : List Call
+    own = keep (isOwn f) later
+
+    abbrev less : List Call
+    less = own ++ keep (concerns (f .pid)) before
+
+    -- it is a run without the packets of other PIDs
+    less-is : keep (concerns (f .pid)) (own ++ before) ≡ less
+    less-is =
+        keep-append (concerns (f .pid)) own before
+        ∙ ap (λ (cs : List Call). cs ++ keep (concerns (f .pid)) before) (keep-kept (concerns (f .pid)) (isOwn f) (own-concerns f) later)
+
+    history-less : history ours store less ≡ thin (f .pid) (history ours store (own ++ before))
+    history-less = ap (history ours store) (sym less-is) ∙ history-thin store whole (f .pid) (own ++ before)
+
+    opened-less : openingOf (f .number) (history ours store less) ≡ there f
+    opened-less = ap (openingOf (f .number)) history-less ∙ thin-opening (f .pid) (f .number) (history ours store (own ++ before)) ∙ run-opened own
+
+    same-owed : owed f (history ours store less) ≡ owed f (history ours store (later ++ before))
+    same-owed =
+        ap (owed f) history-less
+        ∙ thin-owed f (history ours store (own ++ before))
+        ∙ ap (λ (x : Status). x .1) (run-status own ∙ own-alone f later (status f (history ours store before)) ∙ sym (run-status later))
+
+    pub alone : handed f (history ours store (keep (isOwn f) later ++ keep (concerns (f .pid)) before)) ≡ handed f (history ours store (later ++ before))
+    alone =
+        ledger store whole less .hands f opened-less
+        ∙ ap (λ (o : Owed). completed (o .0) (o .1)) same-owed
+        ∙ sym (ledger store whole (later ++ before) .hands f (run-opened later))

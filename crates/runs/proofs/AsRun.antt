@@ -4,9 +4,9 @@ use mathlib.Core.Path.{_≡_, refl, sym, _∙_, ap}
 use mathlib.Core.List.{List, [], _∷_, _++_, reverse, reverse-cons, append-nil, append-assoc}
 use Prim.Native.Nat.{ℕ, zero, suc}
 use lib.ListN.{take, drop}
-use Rattle.gather.specs.Rule.{State, Packet, rule}
+use Rattle.gather.specs.Rule.{State, Packet, blank, rule}
 use Rattle.gather.specs.Run.{run}
-use Rattle.runs.specs.History.{blank, remembered, completed}
+use Rattle.runs.specs.History.{remembered, completed}
 
 -- a run over two lists is a run over one and then over the other
 run-next : (s : State) (a b : List Packet) → run s (a ++ b) .next ≡ run (run s a .next) b .next

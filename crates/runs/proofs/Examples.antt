@@ -3,21 +3,23 @@
 use mathlib.Core.Path.{_≡_, refl}
 use mathlib.Core.List.{List, [], _∷_, _++_}
 use Prim.Native.Nat.{ℕ}
-use lib.ListN.{replicate}
+use lib.ListN.{take, replicate}
+use Rattle.rules.specs.Perhaps.{there, absent}
 use Rattle.rules.specs.Answer.{refused, given}
 use Rattle.rules.specs.Write.{put}
 use Rattle.gather.specs.Rule.{rule, walk, add, started}
-use Rattle.gather.specs.Section.{classify, kindOf}
+use Rattle.gather.specs.Kind.{classify, kindOf}
 use Rattle.driver.specs.Open.{openOf}
 use Rattle.driver.specs.Close.{closeOf}
 use Rattle.driver.specs.Packet.{packetOf}
 use Rattle.driver.specs.Sound.{sound}
-use Rattle.runs.specs.Run.{Call, openCall, closeCall, packetCall, openEvent, closeEvent, start, logFrom}
-use Rattle.runs.specs.History.{Opening, Accepted, accepted, handed, packets, since, remembered, completed}
+use Rattle.runs.specs.Run.{Call, openCall, closeCall, packetCall, openEvent, closeEvent, start, logFrom, ours}
+use Rattle.runs.specs.Answers.{placesAfter, openAnswer, closeAnswer}
+use Rattle.runs.specs.History.{Opening, Accepted, opened, closed, accepted, standing, areasTaken, upToClose, handed, packets, since, remembered, completed}
 
 -- a number is given, closed, refused 16 and never given again
 pub closed-for-good :
-    logFrom (start []) (openCall 0 ∷ closeCall 1 ∷ closeCall 1 ∷ openCall 0 ∷ [])
+    logFrom ours (start []) (openCall 0 ∷ closeCall 1 ∷ closeCall 1 ∷ openCall 0 ∷ [])
     ≡ openEvent 0 (given (record { number = 2; place = 0 }))
     ∷ closeEvent 1 (refused 16)
     ∷ closeEvent 1 (given tt)
@@ -28,7 +30,7 @@ closed-for-good = refl
 
 -- ---- what is handed
 abbrev after : List Call → List Accepted
-after calls = accepted (logFrom (start (replicate 32768 0)) calls)
+after calls = accepted (logFrom ours (start (replicate 32768 0)) calls)
 
 -- after the calls a filter was handed these sections, and these are what the rule completes
 abbrev Handed : Opening → List Call → List (List ℕ) → Type 0
@@ -68,3 +70,47 @@ shared-section = (refl, refl)
 pub forgotten-section : Handed (record { number = 2; pid = 0; place = 0 }) (lend back ∷ openCall 0 ∷ closeCall 1 ∷ lend front ∷ openCall 0 ∷ []) []
 unfolding openOf closeOf packetOf sound put rule walk add started classify kindOf remembered completed
 forgotten-section = (refl, refl)
+
+-- ---- what a history says
+-- two filters on PID 0; the second is closed, and a filter on PID 5 comes to its place
+abbrev earlier : List Accepted
+earlier = opened (record { number = 2; pid = 0; place = 1 }) ∷ opened (record { number = 1; pid = 0; place = 0 }) ∷ []
+
+abbrev reused : List Accepted
+reused = opened (record { number = 3; pid = 5; place = 1 }) ∷ closed 2 ∷ earlier
+
+pub who-stands : take 3 (standing reused) ≡ there (record { number = 1; pid = 0; place = 0 }) ∷ there (record { number = 3; pid = 5; place = 1 }) ∷ absent ∷ []
+who-stands = refl
+
+pub whose-set : (placesAfter reused 0 ≡ 1) × (placesAfter reused 5 ≡ 2) × (placesAfter reused 7 ≡ 0)
+whose-set = (refl, refl, refl)
+
+pub up-to-close : (upToClose 2 reused ≡ earlier) × (upToClose 3 reused ≡ reused)
+up-to-close = (refl, refl)
+
+pub opens-answered :
+    (openAnswer reused 0 ≡ given (record { number = 4; place = 2 })) × (openAnswer reused 0x1FFF ≡ refused 12) × (openAnswer (opened (record { number = 65535; pid = 5; place = 2 }) ∷ reused) 5 ≡ given (record { number = 5; place = 3 }))
+opens-answered = (refl, refl, refl)
+
+pub closes-answered : (closeAnswer reused 3 ≡ given tt) × (closeAnswer reused 2 ≡ refused 16) × (closeAnswer reused 9 ≡ refused 16)
+closes-answered = (refl, refl, refl)
+
+-- the last close on a PID frees its area
+pub areas-counted : (areasTaken earlier ≡ 1) × (areasTaken reused ≡ 2) × (areasTaken (closed 1 ∷ reused) ≡ 1) × (areasTaken (closed 3 ∷ closed 1 ∷ reused) ≡ 0)
+areas-counted = (refl, refl, refl, refl)
+
+-- eight PIDs, each with a filter
+abbrev eight : List Accepted
+eight =
+    opened (record { number = 8; pid = 7; place = 7 })
+    ∷ opened (record { number = 7; pid = 6; place = 6 })
+    ∷ opened (record { number = 6; pid = 5; place = 5 })
+    ∷ opened (record { number = 5; pid = 4; place = 4 })
+    ∷ opened (record { number = 4; pid = 3; place = 3 })
+    ∷ opened (record { number = 3; pid = 2; place = 2 })
+    ∷ opened (record { number = 2; pid = 1; place = 1 })
+    ∷ opened (record { number = 1; pid = 0; place = 0 })
+    ∷ []
+
+pub ninth-answered : (openAnswer eight 8 ≡ refused 15) × (openAnswer eight 3 ≡ given (record { number = 9; place = 8 })) × (openAnswer (closed 3 ∷ eight) 8 ≡ given (record { number = 9; place = 2 }))
+ninth-answered = (refl, refl, refl)

@@ -6,16 +6,16 @@ use mathlib.Core.List.{List, _∷_}
 use Prim.Native.Nat.{ℕ, _+_, _-_, _<_}
 use native.Mathlib.Decide.{ℕ-discrete}
 use native.Mathlib.Omega.{arith}
-use borrow.Author.Tests.{eqb-false, eq-eqb, ne-eqb}
-use lib.Dec.{eqb}
-use lib.ListN.{length, getD, set, length-set}
+use borrow.Author.Tests.{eqb-false, eq-eqb, ne-eqb, lt-ltb, le-ltb}
+use lib.Dec.{eqb, ltb}
+use lib.ListN.{length, getD, set, length-set, List·getD-map}
 use lib.Seq.{getD-set-same, getD-set-other}
-use Rattle.rules.specs.Walk.{total}
-use Rattle.rules.proofs.Walk.{total-set}
-use Rattle.packet.specs.Perhaps.{there}
+use Rattle.rules.specs.Walk.{total, count}
+use Rattle.rules.proofs.Walk.{total-set, passes-inside}
+use Rattle.rules.specs.Perhaps.{Perhaps, there, absent}
 use Rattle.gather.specs.Memory.{stateOf}
 use Rattle.driver.specs.State.{isUsed, isOpen, baseOf, placeOf, freeArea, freeFilter}
-use Rattle.driver.specs.Close.{left, closed as closedState}
+use Rattle.driver.specs.Close.{left, withoutFilter}
 use Rattle.driver.specs.declared.Area.{Area}
 use Rattle.driver.specs.declared.Filter.{Filter}
 use Rattle.driver.specs.declared.State.{State}
@@ -25,9 +25,8 @@ use Rattle.driver.proofs.Ways.{Closes}
 use Rattle.rules.proofs.Test.{neither}
 use Rattle.driver.proofs.Keeps.{closes-clauses}
 use Rattle.runs.specs.Run.{World}
-use Rattle.runs.specs.History.{Opening, Accepted, closed, opens, closes, isOn, openingOf, isClosed, packets, remembered}
-use Rattle.runs.specs.Demand.{IsOpen}
-use Rattle.runs.proofs.Ledger.{usersOf, areaAt, filterAt, openingAt, same-there, Ledger, stood}
+use Rattle.runs.specs.History.{Opening, Accepted, closed, opens, closes, isOn, isLast, openingOf, isClosed, hasArea, unless, standing, areasTaken, packets, remembered}
+use Rattle.runs.proofs.Ledger.{usersOf, areaAt, filterAt, openingAt, seatAt, same-there, IsOpen, Handed, Ledger, open-handed, handed-open, after-close, stood, users}
 
 -- the area has one user less
 left-users : (q : ℕ) (a : Area) → isUsed a ≡ true → usersOf q (left a) + cond (eqb (a .pid .0) q) 1 0 ≡ usersOf q a
@@ -67,7 +66,7 @@ module _ (w : World) (h : List Accepted) (l : Ledger w h) (number : ℕ) (c : Cl
   area = left (areaAt s a)
 
   abbrev after : World
-  after = record { state = closedState s p; store = w .store }
+  after = record { state = withoutFilter s p; store = w .store }
 
   isopen : isOpen (filterAt s p) ≡ true
   isopen = found-place number (s .filters) (c .place) .0
@@ -125,33 +124,88 @@ module _ (w : World) (h : List Accepted) (l : Ledger w h) (number : ℕ) (c : Cl
           let same = getD-set-other (s .areas) a i area freeArea n in
           (ap (λ (x : Area). x .pid) same, ap (λ (x : Area). x .marks) same, ap isUsed (sym same) ∙ u)
 
-  known : (j : ℕ) → j < length (set (s .filters) p freeFilter) → isOpen (getD (set (s .filters) p freeFilter) j freeFilter) ≡ true → IsOpen (openingAt (closedState s p) j) (closed number ∷ h)
+  -- who stands at another place
+  old-filter : (j : ℕ) → (j ≡ p → ⊥) → getD (set (s .filters) p freeFilter) j freeFilter ≡ filterAt s j
+  old-filter j n = getD-set-other (s .filters) p j freeFilter freeFilter n
+
+  old-opening : (j : ℕ) → (j ≡ p → ⊥) → j < length (s .filters) → isOpen (filterAt s j) ≡ true → openingAt (withoutFilter s p) j ≡ openingAt s j
+  old-opening j n b i =
+      ap (λ (g : Filter). record { number = g .number; pid = getD (set (s .areas) a area) (g .area) freeArea .pid .0; place = j }) (old-filter j n)
+      ∙ ap (λ q. record { number = filterAt s j .number; pid = q .0; place = j }) (same-area (filterAt s j .area) used-still .0)
+    where
+      used-still : isUsed (getD (set (s .areas) a area) (filterAt s j .area) freeArea) ≡ true
+      used-still =
+          rw (old-filter j n) at
+          (open-stands (withoutFilter s p) (closes-clauses s number c) j (rw length-set b) (ap isOpen (old-filter j n) ∙ i))
+
+  -- and it has another number
+  other-number : (j : ℕ) → (j ≡ p → ⊥) → j < length (s .filters) → isOpen (filterAt s j) ≡ true → number ≡ filterAt s j .number → ⊥
+  other-number j n b i e = n (same-place (sym (l .known j b i .opened) ∙ ap (λ (k : ℕ). openingOf k h) (sym e) ∙ came))
+    where
+      same-place : there (openingAt s j) ≡ there (openingAt s p) → j ≡ p
+      same-place q = ap (λ (f : Opening). f .place) (same-there q)
+
+  freed : getD (set (s .filters) p freeFilter) p freeFilter ≡ freeFilter
+  freed = getD-set-same (s .filters) p freeFilter freeFilter (c .place)
+
+  known : (j : ℕ) → j < length (set (s .filters) p freeFilter) → isOpen (getD (set (s .filters) p freeFilter) j freeFilter) ≡ true → IsOpen (openingAt (withoutFilter s p) j) (closed number ∷ h)
   known j b i = go (ℕ-discrete j p)
     where
-      go : Dec (j ≡ p) → IsOpen (openingAt (closedState s p) j) (closed number ∷ h)
-      go (yes e) =
-          absurd (false≢true (ap isOpen (sym (getD-set-same (s .filters) p freeFilter freeFilter (c .place))) ∙ ap (λ (k : ℕ). isOpen (getD (set (s .filters) p freeFilter) k freeFilter)) (sym e) ∙ i))
+      go : Dec (j ≡ p) → IsOpen (openingAt (withoutFilter s p) j) (closed number ∷ h)
+      go (yes e) = absurd (false≢true (ap isOpen (sym freed) ∙ ap (λ (k : ℕ). isOpen (getD (set (s .filters) p freeFilter) k freeFilter)) (sym e) ∙ i))
       go (no n) =
-          let was : IsOpen (openingAt s j) h = l .known j within (ap isOpen (sym at) ∙ i) in
-          let differs : number ≡ filterAt s j .number → ⊥ = λ e. n (same-place (sym (was .opened) ∙ ap (λ (k : ℕ). openingOf k h) (sym e) ∙ came)) in
-          rw is (record { opened = was .opened; kept = rw (ne-eqb number (filterAt s j .number) differs) (was .kept) })
-        where
-          at : getD (set (s .filters) p freeFilter) j freeFilter ≡ filterAt s j
-          at = getD-set-other (s .filters) p j freeFilter freeFilter n
+          let within : j < length (s .filters) = rw length-set at b in
+          let open-there : isOpen (filterAt s j) ≡ true = ap isOpen (sym (old-filter j n)) ∙ i in
+          let was : IsOpen (openingAt s j) h = l .known j within open-there in
+          rw (old-opening j n within open-there)
+          (record { opened = was .opened; kept = rw (ne-eqb number (filterAt s j .number) (other-number j n within open-there)) (was .kept) })
 
-          within : j < length (s .filters)
-          within = rw length-set at b
+  seats : (j : ℕ) → getD (standing (closed number ∷ h)) j absent ≡ seatAt (withoutFilter s p) j
+  seats j = List·getD-map (unless number) (standing h) j absent ∙ ap (unless number) (l .seats j) ∙ go (ℕ-discrete j p)
+    where
+      elsewhere : (j ≡ p → ⊥) → (b : Bool) → isOpen (filterAt s j) ≡ b
+          → unless number (cond b (there (openingAt s j)) absent) ≡ cond b (there (openingAt (withoutFilter s p) j)) absent
+      elsewhere n true i =
+          let within = passes-inside isOpen (s .filters) j freeFilter refl i in
+          rw (ne-eqb (filterAt s j .number) number (λ e. other-number j n within i (sym e))) (ap (λ (f : Opening). there f) (sym (old-opening j n within i)))
+      elsewhere n false i = refl
 
-          same-place : there (openingAt s j) ≡ there (openingAt s p) → j ≡ p
-          same-place e = ap (λ (f : Opening). f .place) (same-there e)
+      go : Dec (j ≡ p) → unless number (seatAt s j) ≡ seatAt (withoutFilter s p) j
+      go (yes e) = rw (e, isopen, freed, eq-eqb (filterAt s p .number) number (found-place number (s .filters) (c .place) .1))
+      go (no n) =
+          elsewhere n (isOpen (filterAt s j)) refl
+          ∙ ap (λ (g : Filter). cond (isOpen g) (there (openingAt (withoutFilter s p) j)) absent) (sym (old-filter j n))
 
-          used-still : isUsed (getD (set (s .areas) a area) (filterAt s j .area) freeArea) ≡ true
-          used-still = rw at at (open-stands (closedState s p) (closes-clauses s number c) j b i)
+  -- an area less is used exactly where the PID has none left
+  busy-areas : count isUsed (set (s .areas) a area) ≡ areasTaken (closed number ∷ h)
+  busy-areas = rw came (go (ℕ-discrete (areaAt s a .users) 1))
+    where
+      sum : count isUsed (set (s .areas) a area) + cond (isUsed (areaAt s a)) 1 0 ≡ count isUsed (s .areas) + cond (isUsed area) 1 0
+      sum = total-set (λ (x : Area). cond (isUsed x) 1 0) (s .areas) a area freeArea inside
 
-          is : openingAt (closedState s p) j ≡ openingAt s j
-          is =
-              ap (λ (g : Filter). record { number = g .number; pid = getD (set (s .areas) a area) (g .area) freeArea .pid .0; place = j }) at
-              ∙ ap (λ q. record { number = filterAt s j .number; pid = q .0; place = j }) (same-area (filterAt s j .area) used-still .0)
+      was : _≡_ {A = ℕ} (cond (isUsed (areaAt s a)) 1 0) 1
+      was = ap (λ (b : Bool). cond b 1 0) used
+
+      -- one more close of its PID
+      left-over : hasArea (areaAt s a .pid .0) (closed number ∷ h) ≡ ltb (1 + closes (areaAt s a .pid .0) h) (opens (areaAt s a .pid .0) h)
+      left-over =
+          ap (λ (x : Perhaps Opening). ltb (cond (isOn (areaAt s a .pid .0) x) 1 0 + closes (areaAt s a .pid .0) h) (opens (areaAt s a .pid .0) h)) came
+          ∙ ap (λ (b : Bool). ltb (cond b 1 0 + closes (areaAt s a .pid .0) h) (opens (areaAt s a .pid .0) h)) (eq-eqb (areaAt s a .pid .0) (areaAt s a .pid .0) refl)
+
+      go : Dec (areaAt s a .users ≡ 1) → count isUsed (set (s .areas) a area) ≡ areasTaken h - cond (isLast (there (openingAt s p)) (closed number ∷ h)) 1 0
+      go (yes e) =
+          let even = users w h l a inside used in
+          let none : hasArea (areaAt s a .pid .0) (closed number ∷ h) ≡ false = left-over ∙ le-ltb (1 + closes (areaAt s a .pid .0) h) (opens (areaAt s a .pid .0) h) (omega arith) in
+          let free : _≡_ {A = ℕ} (cond (isUsed area) 1 0) 0 = rw (eq-eqb (areaAt s a .users) 1 e) in
+          let same = l .busyAreas in
+          rw none (omega (arith, sum, was))
+      go (no n) =
+          let even = users w h l a inside used in
+          let some = used-some (areaAt s a) used in
+          let more : hasArea (areaAt s a .pid .0) (closed number ∷ h) ≡ true = left-over ∙ lt-ltb (1 + closes (areaAt s a .pid .0) h) (opens (areaAt s a .pid .0) h) (omega arith) in
+          let kept : _≡_ {A = ℕ} (cond (isUsed area) 1 0) 1 = rw (ne-eqb (areaAt s a .users) 1 n, ne-eqb (areaAt s a .users - 1) 0 (omega arith)) in
+          let same = l .busyAreas in
+          rw more (omega (arith, sum, was))
 
   remembers : (i : ℕ) → i < length (set (s .areas) a area) → isUsed (getD (set (s .areas) a area) i freeArea) ≡ true
       → stateOf (getD (set (s .areas) a area) i freeArea .marks) (w .store) (baseOf i) ≡ remembered (packets (getD (set (s .areas) a area) i freeArea .pid .0) h)
@@ -159,18 +213,31 @@ module _ (w : World) (h : List Accepted) (l : Ledger w h) (number : ℕ) (c : Cl
       let same = same-area i u in
       rw (same .0, same .1) (l .remembers i (rw length-set at b) (same .2))
 
+  -- what a filter is handed ends with its close
+  hands : (f : Opening) → openingOf (f .number) h ≡ there f → Handed f (closed number ∷ h)
+  hands f i = go (isClosed (f .number) h) refl (ℕ-discrete number (f .number))
+    where
+      go : (b : Bool) → isClosed (f .number) h ≡ b → Dec (number ≡ f .number) → Handed f (closed number ∷ h)
+      go true k e = after-close f h k (l .hands f i) number
+      go false k (yes e) = rw (k, eq-eqb number (f .number) e) (handed-open f h k (l .hands f i))
+      go false k (no n) = open-handed f (closed number ∷ h) (rw (ne-eqb number (f .number) n) k) (handed-open f h k (l .hands f i))
+
   pub close-ledger : Ledger after (closed number ∷ h)
   close-ledger =
       record {
         whole = l .whole;
         eight = length-set (s .areas) a area ∙ l .eight;
+        places = length-set (s .filters) p freeFilter ∙ l .places;
         clauses = closes-clauses s number c;
         balance = balance;
+        numbers = l .numbers;
         given = l .given;
         ended = ended;
         stands = stands;
         known = known;
+        seats = seats;
+        busyAreas = busy-areas;
         remembers = remembers;
         counts = (tt, l .counts);
-        hands = λ f i. l .hands f (before f i .0);
+        hands = hands;
       }

@@ -6,14 +6,15 @@ use mathlib.Core.List.{List, [], _∷_}
 use Prim.Native.Nat.{ℕ, _+_, _≤_, _<_}
 use native.Mathlib.Decide.{ℕ-discrete}
 use native.Mathlib.Omega.{arith}
-use borrow.Author.Tests.{eqb-true, eq-eqb, ne-eqb, not-true, not-false}
+use borrow.Author.Tests.{eqb-true, eq-eqb, ne-eqb, lt-ltb, le-ltb, not-true, not-false}
 use lib.Dec.{eqb}
 use lib.ListN.{length, getD, set, length-set}
 use lib.Seq.{getD-set-same, getD-set-other}
-use Rattle.rules.specs.Walk.{total}
+use Rattle.rules.specs.Walk.{total, count}
 use Rattle.rules.proofs.Test.{both-true}
-use Rattle.rules.proofs.Walk.{total-set, find-passes, all-at}
-use Rattle.packet.specs.Perhaps.{there}
+use Rattle.rules.proofs.Walk.{total-set, total-none, find-passes, passes-inside, all-at}
+use Rattle.rules.specs.Perhaps.{there, absent}
+use Rattle.gather.specs.Rule.{blank}
 use Rattle.gather.specs.Memory.{stateOf}
 use Rattle.driver.specs.State.{isUsed, isOpen, isFree, baseOf, freePlaceOf, freeArea, freeFilter}
 use Rattle.driver.specs.Sound.{soundArea, isZeroArea}
@@ -22,20 +23,18 @@ use Rattle.driver.specs.declared.Area.{Area}
 use Rattle.driver.specs.declared.Filter.{Filter}
 use Rattle.driver.specs.declared.State.{State}
 use Rattle.driver.proofs.Clauses.{open-stands}
-use Rattle.driver.proofs.KeepsOpen.{Taken, own, new, taken, others}
+use Rattle.driver.proofs.KeepsOpen.{ForPid, own, new, for-pid, others}
 use Rattle.driver.proofs.Found.{found-area}
 use Rattle.driver.proofs.Ways.{Opens}
 use Rattle.driver.proofs.Keeps.{opens-clauses}
 use Rattle.runs.specs.Run.{World}
-use Rattle.runs.specs.History.{Opening, Accepted, opened, opens, closes, openingOf, isClosed, packets, since, handed, blank, remembered, completed}
-use Rattle.runs.specs.Demand.{IsOpen}
+use Rattle.runs.specs.History.{Opening, Accepted, opened, opens, closes, openingOf, isClosed, hasArea, standing, areasTaken, packets, since, remembered, completed}
 use Rattle.runs.proofs.AsRun.{remembered-none, completed-none}
-use Rattle.runs.proofs.Sums.{total-none}
-use Rattle.runs.proofs.Ledger.{usersOf, areaAt, filterAt, openingAt, Ledger, stood, busy, not-taken, still-taken}
+use Rattle.runs.proofs.Ledger.{usersOf, areaAt, filterAt, openingAt, seatAt, IsOpen, Handed, Ledger, open-handed, handed-open, after-open, stood, busy, not-taken, still-taken, standing-long}
 
 -- ---- the area that is taken
 -- where it is used it has the PID
-owned : (pid : ℕ) (areas : List Area) {i : ℕ} → Taken pid areas i → i < length areas → isUsed (getD areas i freeArea) ≡ true → getD areas i freeArea .pid .0 ≡ pid
+owned : (pid : ℕ) (areas : List Area) {i : ℕ} → ForPid pid areas i → i < length areas → isUsed (getD areas i freeArea) ≡ true → getD areas i freeArea .pid .0 ≡ pid
 owned pid areas (own b) h u = found-area pid areas b .1
 owned pid areas (new b) h u =
     absurd (false≢true (sym (ap not (find-passes (λ a. eqb (a .users) 0) areas freeArea h)) ∙ u))
@@ -92,7 +91,7 @@ module _ (w : World) (h : List Accepted) (l : Ledger w h) (pid : ℕ) (o : Opens
   after = record { state = openedState s pid; store = w .store }
 
   owns : isUsed (areaAt s a) ≡ true → areaAt s a .pid .0 ≡ pid
-  owns = owned pid (s .areas) (taken pid (s .areas)) (o .area)
+  owns = owned pid (s .areas) (for-pid pid (s .areas)) (o .area)
 
   free : filterAt s p .number ≡ 0
   free = eqb-true (filterAt s p .number) 0 (find-passes isFree (s .filters) freeFilter (o .place))
@@ -154,42 +153,6 @@ module _ (w : World) (h : List Accepted) (l : Ledger w h) (pid : ℕ) (o : Opens
           ∙ ap (λ (j : ℕ). areaAt s j .pid .0) (sym e)
       go (no n) = ap (λ (x : Area). x .pid .0) (getD-set-other (s .areas) a i area freeArea n)
 
-  known : (j : ℕ) → j < length (set (s .filters) p filter) → isOpen (getD (set (s .filters) p filter) j freeFilter) ≡ true → IsOpen (openingAt (openedState s pid) j) (opened fresh ∷ h)
-  known j b i = go (ℕ-discrete j p)
-    where
-      go : Dec (j ≡ p) → IsOpen (openingAt (openedState s pid) j) (opened fresh ∷ h)
-      go (yes e) = rw is (record { opened = rw (eq-eqb (s .next) (s .next) refl); kept = unclosed })
-        where
-          at : getD (set (s .filters) p filter) p freeFilter ≡ filter
-          at = getD-set-same (s .filters) p filter freeFilter (o .place)
-
-          is : openingAt (openedState s pid) j ≡ fresh
-          is =
-              ap (openingAt (openedState s pid)) e
-              ∙ ap (λ (g : Filter). record { number = g .number; pid = getD (set (s .areas) a area) (g .area) freeArea .pid .0; place = p }) at
-              ∙ ap (λ (x : Area). record { number = s .next; pid = x .pid .0; place = p }) (getD-set-same (s .areas) a area freeArea (o .area))
-      go (no n) =
-          let was : IsOpen (openingAt s j) h = l .known j inside still in
-          let range = l .given (filterAt s j .number) (openingAt s j) (was .opened) in
-          rw is (record { opened = rw (ne-eqb (s .next) (filterAt s j .number) (λ e. above e (range .1))) (was .opened); kept = was .kept })
-        where
-          at : getD (set (s .filters) p filter) j freeFilter ≡ filterAt s j
-          at = getD-set-other (s .filters) p j filter freeFilter n
-
-          inside : j < length (s .filters)
-          inside = rw length-set at b
-
-          still : isOpen (filterAt s j) ≡ true
-          still = ap isOpen (sym at) ∙ i
-
-          is : openingAt (openedState s pid) j ≡ openingAt s j
-          is =
-              ap (λ (g : Filter). record { number = g .number; pid = getD (set (s .areas) a area) (g .area) freeArea .pid .0; place = j }) at
-              ∙ ap (λ (q : ℕ). record { number = filterAt s j .number; pid = q; place = j }) (same-pid (filterAt s j .area) (open-stands s (l .clauses) j inside still))
-
-          above : {m k : ℕ} → m ≡ k → k < m → ⊥
-          above e b = omega arith
-
   -- where the area was free the PID had no users
   none : isUsed (areaAt s a) ≡ false → opens pid h ≡ closes pid h
   none u =
@@ -202,7 +165,91 @@ module _ (w : World) (h : List Accepted) (l : Ledger w h) (pid : ℕ) (o : Opens
         where
           go : Dec (j ≡ a) → usersOf pid (areaAt s j) ≡ 0
           go (yes e) = rw (e, u)
-          go (no n) = rw (others pid (s .areas) (taken pid (s .areas)) (l .clauses .pids) j b n)
+          go (no n) = rw (others pid (s .areas) (for-pid pid (s .areas)) (l .clauses .pids) j b n)
+
+  -- who stands at the place that was taken, and elsewhere
+  new-filter : getD (set (s .filters) p filter) p freeFilter ≡ filter
+  new-filter = getD-set-same (s .filters) p filter freeFilter (o .place)
+
+  new-opening : openingAt (openedState s pid) p ≡ fresh
+  new-opening =
+      ap (λ (g : Filter). record { number = g .number; pid = getD (set (s .areas) a area) (g .area) freeArea .pid .0; place = p }) new-filter
+      ∙ ap (λ (x : Area). record { number = s .next; pid = x .pid .0; place = p }) (getD-set-same (s .areas) a area freeArea (o .area))
+
+  old-filter : (j : ℕ) → (j ≡ p → ⊥) → getD (set (s .filters) p filter) j freeFilter ≡ filterAt s j
+  old-filter j n = getD-set-other (s .filters) p j filter freeFilter n
+
+  old-opening : (j : ℕ) → (j ≡ p → ⊥) → j < length (s .filters) → isOpen (filterAt s j) ≡ true → openingAt (openedState s pid) j ≡ openingAt s j
+  old-opening j n b i =
+      ap (λ (g : Filter). record { number = g .number; pid = getD (set (s .areas) a area) (g .area) freeArea .pid .0; place = j }) (old-filter j n)
+      ∙ ap (λ (q : ℕ). record { number = filterAt s j .number; pid = q; place = j }) (same-pid (filterAt s j .area) (open-stands s (l .clauses) j b i))
+
+  known : (j : ℕ) → j < length (set (s .filters) p filter) → isOpen (getD (set (s .filters) p filter) j freeFilter) ≡ true → IsOpen (openingAt (openedState s pid) j) (opened fresh ∷ h)
+  known j b i = go (ℕ-discrete j p)
+    where
+      go : Dec (j ≡ p) → IsOpen (openingAt (openedState s pid) j) (opened fresh ∷ h)
+      go (yes e) = rw (e, new-opening) (record { opened = rw (eq-eqb (s .next) (s .next) refl); kept = unclosed })
+      go (no n) =
+          let inside : j < length (s .filters) = rw length-set at b in
+          let still : isOpen (filterAt s j) ≡ true = ap isOpen (sym (old-filter j n)) ∙ i in
+          let was : IsOpen (openingAt s j) h = l .known j inside still in
+          let range = l .given (filterAt s j .number) (openingAt s j) (was .opened) in
+          rw (old-opening j n inside still)
+          (record { opened = rw (ne-eqb (s .next) (filterAt s j .number) (λ e. above e (range .1))) (was .opened); kept = was .kept })
+        where
+          above : {m k : ℕ} → m ≡ k → k < m → ⊥
+          above e b = omega arith
+
+  seats : (j : ℕ) → getD (set (standing h) p (there fresh)) j absent ≡ seatAt (openedState s pid) j
+  seats j = go (ℕ-discrete j p)
+    where
+      open-now : isOpen filter ≡ true
+      open-now = let one = l .clauses .from in ap not (ne-eqb (s .next) 0 (λ e. omega arith))
+
+      elsewhere : (j ≡ p → ⊥) → (b : Bool) → isOpen (filterAt s j) ≡ b → cond b (there (openingAt s j)) absent ≡ cond b (there (openingAt (openedState s pid) j)) absent
+      elsewhere n true i = ap (λ (f : Opening). there f) (sym (old-opening j n (passes-inside isOpen (s .filters) j freeFilter refl i) i))
+      elsewhere n false i = refl
+
+      go : Dec (j ≡ p) → getD (set (standing h) p (there fresh)) j absent ≡ seatAt (openedState s pid) j
+      go (yes e) =
+          let long = standing-long h in
+          let many = l .places in
+          let low = o .place in
+          ap (λ (k : ℕ). getD (set (standing h) p (there fresh)) k absent) e
+          ∙ getD-set-same (standing h) p (there fresh) absent (omega arith)
+          ∙ ap (λ (f : Opening). there f) (sym new-opening)
+          ∙ ap (λ (b : Bool). cond b (there (openingAt (openedState s pid) p)) absent) (sym (ap isOpen new-filter ∙ open-now))
+          ∙ ap (seatAt (openedState s pid)) (sym e)
+      go (no n) =
+          getD-set-other (standing h) p j (there fresh) absent n
+          ∙ l .seats j
+          ∙ elsewhere n (isOpen (filterAt s j)) refl
+          ∙ ap (λ (g : Filter). cond (isOpen g) (there (openingAt (openedState s pid) j)) absent) (sym (old-filter j n))
+
+  -- an area more is used exactly where the PID had none
+  busy-areas : count isUsed (set (s .areas) a area) ≡ areasTaken h + cond (hasArea pid h) 0 1
+  busy-areas = go (isUsed (areaAt s a)) refl
+    where
+      sum : count isUsed (set (s .areas) a area) + cond (isUsed (areaAt s a)) 1 0 ≡ count isUsed (s .areas) + cond (isUsed area) 1 0
+      sum = total-set (λ (x : Area). cond (isUsed x) 1 0) (s .areas) a area freeArea (o .area)
+
+      one : _≡_ {A = ℕ} (cond (isUsed area) 1 0) 1
+      one = ap (λ (b : Bool). cond b 1 0) (ap not (ne-eqb (areaAt s a .users + 1) 0 (omega arith)))
+
+      go : (u : Bool) → isUsed (areaAt s a) ≡ u → count isUsed (set (s .areas) a area) ≡ areasTaken h + cond (hasArea pid h) 0 1
+      go true u =
+          let some = busy w h l a pid (o .area) u (owns u) in
+          let even = l .balance pid in
+          let was : _≡_ {A = ℕ} (cond (isUsed (areaAt s a)) 1 0) 1 = ap (λ (b : Bool). cond b 1 0) u in
+          let has : _≡_ {A = ℕ} (cond (hasArea pid h) 0 1) 0 = ap (λ (b : Bool). cond b 0 1) (lt-ltb (closes pid h) (opens pid h) (omega arith)) in
+          let same = l .busyAreas in
+          omega (arith, sum, one)
+      go false u =
+          let even = none u in
+          let was : _≡_ {A = ℕ} (cond (isUsed (areaAt s a)) 1 0) 0 = ap (λ (b : Bool). cond b 1 0) u in
+          let has : _≡_ {A = ℕ} (cond (hasArea pid h) 0 1) 1 = ap (λ (b : Bool). cond b 0 1) (le-ltb (closes pid h) (opens pid h) (omega arith)) in
+          let same = l .busyAreas in
+          omega (arith, sum, one)
 
   remembers : (i : ℕ) → i < length (set (s .areas) a area) → isUsed (getD (set (s .areas) a area) i freeArea) ≡ true
       → stateOf (getD (set (s .areas) a area) i freeArea .marks) (w .store) (baseOf i) ≡ remembered (packets (getD (set (s .areas) a area) i freeArea .pid .0) (opened fresh ∷ h))
@@ -225,26 +272,39 @@ module _ (w : World) (h : List Accepted) (l : Ledger w h) (pid : ℕ) (o : Opens
           let inside : i < length (s .areas) = rw length-set at b in
           rw same (l .remembers i inside was ∙ ap remembered (sym (not-taken w h l (areaAt s i .pid .0) fresh (busy w h l i (areaAt s i .pid .0) inside was refl))))
 
-  hands : (f : Opening) → IsOpen f (opened fresh ∷ h) → handed f (opened fresh ∷ h) ≡ completed (since f (opened fresh ∷ h)) (packets (f .pid) (opened fresh ∷ h))
+  hands : (f : Opening) → openingOf (f .number) (opened fresh ∷ h) ≡ there f → Handed f (opened fresh ∷ h)
   hands f i = go (ℕ-discrete (s .next) (f .number))
     where
-      go : Dec (s .next ≡ f .number) → handed f (opened fresh ∷ h) ≡ completed (since f (opened fresh ∷ h)) (packets (f .pid) (opened fresh ∷ h))
-      go (yes r) = rw (eq-eqb (s .next) (f .number) r) (sym (completed-none (packets (f .pid) (opened fresh ∷ h))))
-      go (no n) =
-          rw (ne-eqb (s .next) (f .number) n)
-          (l .hands f (before f i n) ∙ ap (completed (since f h)) (sym (still-taken w h l f fresh (before f i n))))
+      -- a filter that was there before
+      old : (s .next ≡ f .number → ⊥) → (b : Bool) → isClosed (f .number) h ≡ b → Handed f (opened fresh ∷ h)
+      old n true k = after-open f h k (l .hands f (rw (ne-eqb (s .next) (f .number) n) at i)) fresh n
+      old n false k =
+          let was : IsOpen f h = before f (record { opened = i; kept = k }) n in
+          open-handed f (opened fresh ∷ h) k
+          (rw (ne-eqb (s .next) (f .number) n)
+          (handed-open f h k (l .hands f (was .opened)) ∙ ap (completed (since f h)) (sym (still-taken w h l f fresh was))))
+
+      go : Dec (s .next ≡ f .number) → Handed f (opened fresh ∷ h)
+      go (yes r) =
+          open-handed f (opened fresh ∷ h) (ap (λ (n : ℕ). isClosed n h) (sym r) ∙ unclosed)
+          (rw (eq-eqb (s .next) (f .number) r) (sym (completed-none (packets (f .pid) (opened fresh ∷ h)))))
+      go (no n) = old n (isClosed (f .number) h) refl
 
   pub open-ledger : Ledger after (opened fresh ∷ h)
   open-ledger =
       record {
         whole = l .whole;
         eight = length-set (s .areas) a area ∙ l .eight;
+        places = length-set (s .filters) p filter ∙ l .places;
         clauses = opens-clauses s pid o;
         balance = balance;
+        numbers = ap (λ (n : ℕ). n + 1) (l .numbers);
         given = given;
         ended = λ number e. let b = l .ended number e in omega arith;
         stands = stands;
         known = known;
+        seats = seats;
+        busyAreas = busy-areas;
         remembers = remembers;
         counts = (tt, l .counts);
         hands = hands;

@@ -1,7 +1,7 @@
 -- An accepted packet keeps the ledger: its area remembers one packet more, and the filters whose places are in the set are handed what the rule completes of it.
 -- Assumes nothing.
 use mathlib.Core.Path.{_≡_, refl, sym, _∙_, ap, ap₂}
-use mathlib.Core.Bool.{Bool, true, false, _&&_}
+use mathlib.Core.Bool.{Bool, true, false, cond, _&&_}
 use mathlib.Core.List.{List, _∷_, _++_, append-nil}
 use mathlib.Core.Logic.{_⊎_, inl, inr}
 use Prim.Native.Nat.{ℕ, _+_, _≤_, _<_}
@@ -10,22 +10,24 @@ use native.Mathlib.Omega.{arith}
 use borrow.Author.Tests.{eq-eqb, ne-eqb}
 use lib.ListN.{length, getD, set, length-set}
 use lib.Seq.{getD-set-same, getD-set-other}
-use Rattle.rules.specs.Walk.{total}
+use Rattle.rules.specs.Perhaps.{there, absent}
+use Rattle.rules.specs.Set.{isIn}
+use Rattle.rules.specs.Walk.{total, count}
+use Rattle.rules.proofs.Set.{in-set}
 use Rattle.rules.specs.Write.{put}
 use Rattle.rules.proofs.Test.{true-both}
 use Rattle.rules.proofs.Walk.{total-set, all-at}
 use Rattle.rules.proofs.Write.{length-put}
 use Rattle.gather.specs.Rule.{Outcome, rule}
-use Rattle.gather.specs.Section.{join}
-use Rattle.gather.specs.Memory.{stateOf, bytesAt, lastOf}
+use Rattle.gather.specs.Kind.{join}
+use Rattle.gather.specs.Memory.{stateOf, stretch, lastOf}
 use Rattle.gather.proofs.Laws.{rule-keeps}
 use Rattle.gather.proofs.Accepting.{sound-says}
 use Rattle.gather.proofs.Stored.{state-again, output-cut}
-use Rattle.driver.specs.State.{isUsed, isOpen, areaOf, baseOf, freeArea}
+use Rattle.driver.specs.State.{isUsed, isOpen, standsOn, areaOf, baseOf, freeArea, freeFilter}
 use Rattle.driver.specs.Sound.{soundArea}
-use Rattle.driver.specs.Packet.{pidOf, placesOn, outcome, marked, report, taken}
+use Rattle.driver.specs.Packet.{Said, pidOf, packetFrom, placesOn, outcome, marked, report, putBack}
 use Rattle.driver.specs.declared.Area.{Area}
-use Rattle.driver.specs.declared.Report.{Report}
 use Rattle.driver.specs.declared.State.{State}
 use Rattle.driver.proofs.KeepsOpen.{only-one}
 use Rattle.driver.proofs.Clauses.{marks-sound}
@@ -34,11 +36,9 @@ use Rattle.driver.proofs.Ways.{Handles}
 use Rattle.driver.proofs.Found.{has-pid, found-area}
 use Rattle.driver.proofs.Keeps.{held-fits, held-inside, handles-clauses}
 use Rattle.runs.specs.Run.{World}
-use Rattle.runs.specs.History.{Opening, Accepted, packet, opens, closes, packetFrom, packets, since, isIn, sectionsOf, handed, remembered, completed}
-use Rattle.runs.specs.Demand.{IsOpen}
+use Rattle.runs.specs.History.{Opening, Accepted, packet, opens, closes, openingOf, isClosed, standing, areasTaken, packets, since, sectionsOf, handed, remembered, completed}
 use Rattle.runs.proofs.AsRun.{remembered-one, completed-one}
-use Rattle.runs.proofs.Sums.{in-places}
-use Rattle.runs.proofs.Ledger.{usersOf, areaAt, filterAt, openingAt, Ledger, Stands, stood}
+use Rattle.runs.proofs.Ledger.{usersOf, areaAt, filterAt, openingAt, seatAt, IsOpen, Handed, Ledger, Stands, open-handed, handed-open, after-packet, stood}
 
 module _ (w : World) (h : List Accepted) (l : Ledger w h) (p out : List ℕ) (k : Handles (w .state) p (w .store) out) where
   abbrev s : State
@@ -53,14 +53,14 @@ module _ (w : World) (h : List Accepted) (l : Ledger w h) (p out : List ℕ) (k 
   abbrev area : Area
   area = marked (areaAt s own) result
 
-  abbrev said : Report
+  abbrev said : Said
   said = report result (placesOn own (s .filters))
 
   abbrev written : List ℕ
   written = put out 0 (join (result .sections))
 
   abbrev after : World
-  after = record { state = taken s own result (w .store) out .state; store = put (w .store) (baseOf own) (result .next .held) }
+  after = record { state = putBack s own result (w .store) out .state; store = put (w .store) (baseOf own) (result .next .held) }
 
   mine : (isUsed (areaAt s own) ≡ true) × (areaAt s own .pid .0 ≡ pidOf p)
   mine = found-area (pidOf p) (s .areas) (k .area)
@@ -84,12 +84,22 @@ module _ (w : World) (h : List Accepted) (l : Ledger w h) (p out : List ℕ) (k 
       let b = l .balance q in
       omega arith
 
-  known : (j : ℕ) → j < length (s .filters) → isOpen (filterAt s j) ≡ true → IsOpen (openingAt (after .state) j) (packet p said written ∷ h)
-  known j b i =
-      let was = l .known j b i in
-      let is : openingAt (after .state) j ≡ openingAt s j =
-      ap (λ (q : ℕ). record { number = filterAt s j .number; pid = q; place = j }) (unseen (λ (a : Area). a .pid .0) (s .areas) own area freeArea (k .area) refl (filterAt s j .area)) in
-      rw is (record { opened = was .opened; kept = was .kept })
+  -- who stands where is as before
+  same-opening : (j : ℕ) → openingAt (after .state) j ≡ openingAt s j
+  same-opening j =
+      ap (λ (q : ℕ). record { number = filterAt s j .number; pid = q; place = j }) (unseen (λ (a : Area). a .pid .0) (s .areas) own area freeArea (k .area) refl (filterAt s j .area))
+
+  known : (j : ℕ) → j < length (s .filters) → isOpen (filterAt s j) ≡ true → IsOpen (openingAt (after .state) j) (packet p out said written ∷ h)
+  known j b i = let was = l .known j b i in rw (same-opening j) (record { opened = was .opened; kept = was .kept })
+
+  seats : (j : ℕ) → getD (standing h) j absent ≡ seatAt (after .state) j
+  seats j = l .seats j ∙ ap (λ (f : Opening). cond (isOpen (filterAt s j)) (there f) absent) (sym (same-opening j))
+
+  busy-areas : count isUsed (set (s .areas) own area) ≡ areasTaken h
+  busy-areas =
+      let sum = total-set (λ (x : Area). cond (isUsed x) 1 0) (s .areas) own area freeArea (k .area) in
+      let same = l .busyAreas in
+      omega arith
 
   -- a used area with the packet's PID is the packet's
   own-only : (i : ℕ) → i < length (s .areas) → isUsed (areaAt s i) ≡ true → pidOf p ≡ areaAt s i .pid .0 → i ≡ own
@@ -98,7 +108,7 @@ module _ (w : World) (h : List Accepted) (l : Ledger w h) (p out : List ℕ) (k 
       (has-pid (pidOf p) (areaAt s i) u (sym e)) (has-pid (pidOf p) (areaAt s own) (mine .0) (mine .1))
 
   -- the held bytes of another area are as before
-  elsewhere : (i n : ℕ) → n ≤ 4095 → (i ≡ own → ⊥) → bytesAt n (after .store) (baseOf i) ≡ bytesAt n (w .store) (baseOf i)
+  elsewhere : (i n : ℕ) → n ≤ 4095 → (i ≡ own → ⊥) → stretch n (after .store) (baseOf i) ≡ stretch n (w .store) (baseOf i)
   elsewhere i n few other = part-apart (w .store) (baseOf own) (result .next .held) inside 0 (baseOf i) n (go (decLt i own))
     where
       go : Dec (i < own) → (baseOf i + n ≤ baseOf own) ⊎ (baseOf own + length (result .next .held) ≤ baseOf i)
@@ -106,10 +116,10 @@ module _ (w : World) (h : List Accepted) (l : Ledger w h) (p out : List ℕ) (k 
       go (no m) = let f = fits in inr (omega arith)
 
   remembers : (i : ℕ) → i < length (set (s .areas) own area) → isUsed (getD (set (s .areas) own area) i freeArea) ≡ true
-      → stateOf (getD (set (s .areas) own area) i freeArea .marks) (after .store) (baseOf i) ≡ remembered (packets (getD (set (s .areas) own area) i freeArea .pid .0) (packet p said written ∷ h))
+      → stateOf (getD (set (s .areas) own area) i freeArea .marks) (after .store) (baseOf i) ≡ remembered (packets (getD (set (s .areas) own area) i freeArea .pid .0) (packet p out said written ∷ h))
   remembers i b u = go (ℕ-discrete i own)
     where
-      go : Dec (i ≡ own) → stateOf (getD (set (s .areas) own area) i freeArea .marks) (after .store) (baseOf i) ≡ remembered (packets (getD (set (s .areas) own area) i freeArea .pid .0) (packet p said written ∷ h))
+      go : Dec (i ≡ own) → stateOf (getD (set (s .areas) own area) i freeArea .marks) (after .store) (baseOf i) ≡ remembered (packets (getD (set (s .areas) own area) i freeArea .pid .0) (packet p out said written ∷ h))
       go (yes e) =
           rw (e, getD-set-same (s .areas) own area freeArea (k .area), mine .1, eq-eqb (pidOf p) (pidOf p) refl)
           (state-again (result .next) (w .store) (baseOf own) inside ∙ ap (λ (x : Outcome). x .next) outcome-is ∙ sym (remembered-one (packetFrom p) (packets (pidOf p) h)))
@@ -130,40 +140,51 @@ module _ (w : World) (h : List Accepted) (l : Ledger w h) (p out : List ℕ) (k 
       let most = keeps .bytes (k .short) in
       output-cut (result .sections) out (keeps .whole) (omega arith)
 
-  hands : (f : Opening) → IsOpen f h → handed f (packet p said written ∷ h) ≡ completed (since f (packet p said written ∷ h)) (packets (f .pid) (packet p said written ∷ h))
-  hands f i = go (ℕ-discrete (filterAt s (f .place) .area) own)
+  handed-more : (f : Opening) → IsOpen f h → handed f (packet p out said written ∷ h) ≡ completed (since f (packet p out said written ∷ h)) (packets (f .pid) (packet p out said written ∷ h))
+  handed-more f i = go (ℕ-discrete (filterAt s (f .place) .area) own)
     where
       st : Stands s f
       st = stood w h l f i
 
-      go : Dec (filterAt s (f .place) .area ≡ own) → handed f (packet p said written ∷ h) ≡ completed (since f (packet p said written ∷ h)) (packets (f .pid) (packet p said written ∷ h))
+      go : Dec (filterAt s (f .place) .area ≡ own) → handed f (packet p out said written ∷ h) ≡ completed (since f (packet p out said written ∷ h)) (packets (f .pid) (packet p out said written ∷ h))
       go (yes e) =
           let same : pidOf p ≡ f .pid = sym (mine .1) ∙ ap (λ (j : ℕ). areaAt s j .pid .0) (sym e) ∙ st .pid in
-          let bit : isIn (f .place) (said .places) ≡ true = in-places own (s .filters) (f .place) (st .inside) ∙ true-both (isOpen (filterAt s (f .place))) _ (st .isopen) (eq-eqb (filterAt s (f .place) .area) own e) in
-          rw (bit, eq-eqb (pidOf p) (f .pid) same)
-          (ap₂ (λ (x y : List (List ℕ)). x ++ y) (l .hands f i) (sections ∙ ap (λ (x : Outcome). x .sections) outcome-is ∙ ap (λ (q : ℕ). rule (remembered (packets q h)) (packetFrom p) .sections) same)
+          let bit : isIn (f .place) (said .places) ≡ true = in-set (standsOn own) (s .filters) (f .place) freeFilter refl ∙ true-both (isOpen (filterAt s (f .place))) _ (st .isopen) (eq-eqb (filterAt s (f .place) .area) own e) in
+          rw (i .kept, bit, eq-eqb (pidOf p) (f .pid) same)
+          (ap₂ (λ (x y : List (List ℕ)). x ++ y) (handed-open f h (i .kept) (l .hands f (i .opened))) (sections ∙ ap (λ (x : Outcome). x .sections) outcome-is ∙ ap (λ (q : ℕ). rule (remembered (packets q h)) (packetFrom p) .sections) same)
           ∙ sym (completed-one (since f h) (packetFrom p) (packets (f .pid) h)))
       go (no n) =
           let other : pidOf p ≡ f .pid → ⊥ = λ e. n (own-only (filterAt s (f .place) .area) (st .area) (st .used) (e ∙ sym (st .pid))) in
           let bit : isIn (f .place) (said .places) ≡ false =
-          in-places own (s .filters) (f .place) (st .inside) ∙ ap₂ (λ (b c : Bool). b && c) (st .isopen) (ne-eqb (filterAt s (f .place) .area) own n) in
-          rw (bit, ne-eqb (pidOf p) (f .pid) other, append-nil) (l .hands f i)
+          in-set (standsOn own) (s .filters) (f .place) freeFilter refl ∙ ap₂ (λ (b c : Bool). b && c) (st .isopen) (ne-eqb (filterAt s (f .place) .area) own n) in
+          rw (i .kept, bit, ne-eqb (pidOf p) (f .pid) other, append-nil) (handed-open f h (i .kept) (l .hands f (i .opened)))
 
-  pub packet-ledger : Ledger after (packet p said written ∷ h)
+  hands : (f : Opening) → openingOf (f .number) h ≡ there f → Handed f (packet p out said written ∷ h)
+  hands f i = go (isClosed (f .number) h) refl
+    where
+      go : (b : Bool) → isClosed (f .number) h ≡ b → Handed f (packet p out said written ∷ h)
+      go true e = after-packet f h e (l .hands f i) p out said written
+      go false e = open-handed f (packet p out said written ∷ h) e (handed-more f (record { opened = i; kept = e }))
+
+  pub packet-ledger : Ledger after (packet p out said written ∷ h)
   packet-ledger =
       record {
         whole = length-put (w .store) (baseOf own) (result .next .held) inside ∙ l .whole;
         eight = length-set (s .areas) own area ∙ l .eight;
+        places = l .places;
         clauses = handles-clauses s p (w .store) out (l .eight) k;
         balance = balance;
+        numbers = l .numbers;
         given = l .given;
         ended = l .ended;
         stands = λ f i. l .stands f (before f i);
         known = known;
+        seats = seats;
+        busyAreas = busy-areas;
         remembers = remembers;
         counts = (ap length (sym sections), l .counts);
-        hands = λ f i. hands f (before f i);
+        hands = hands;
       }
     where
-      before : (f : Opening) → IsOpen f (packet p said written ∷ h) → IsOpen f h
+      before : (f : Opening) → IsOpen f (packet p out said written ∷ h) → IsOpen f h
       before f i = record { opened = i .opened; kept = i .kept }

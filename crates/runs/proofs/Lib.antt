@@ -1,11 +1,14 @@
 pub mod Examples
-pub mod Sums
 pub mod AsRun
 pub mod Ledger
 pub mod LedgerOpen
 pub mod LedgerClose
 pub mod LedgerPacket
 pub mod Steps
+pub mod Answers
+pub mod Others
 pub mod Alone
+pub mod Idle
 pub mod InOrder
 pub mod Demand
+pub mod Wrong

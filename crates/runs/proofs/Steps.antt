@@ -1,18 +1,18 @@
 -- Every call keeps the ledger, refused or not, and none is refused 1 or 9: so the ledger holds of every run.
 -- Assumes nothing.
 use mathlib.Core.Path.{_≡_, refl, sym, _∙_, ap}
-use mathlib.Core.Bool.{true, false, false≢true}
+use mathlib.Core.Bool.{Bool, true, false, cond, false≢true}
 use mathlib.Core.List.{List, [], _∷_, _++_}
-use Prim.Native.Nat.{ℕ, _<_}
+use Prim.Native.Nat.{ℕ, zero, suc, _<_}
 use native.Mathlib.Omega.{arith}
 use borrow.Author.Tests.{ne-eqb}
 use lib.Dec.{eqb}
-use lib.ListN.{length, getD-replicate}
-use Rattle.rules.specs.Answer.{refused, given}
+use lib.ListN.{length, getD, replicate, getD-replicate}
+use Rattle.rules.specs.Answer.{given}
 use Rattle.rules.specs.Walk.{Every}
-use Rattle.packet.specs.Perhaps.{there, absent}
+use Rattle.rules.specs.Perhaps.{there, absent}
 use Rattle.gather.specs.Memory.{contradictsOf}
-use Rattle.gather.specs.Section.{contradicting}
+use Rattle.gather.specs.Kind.{contradicting}
 use Rattle.driver.specs.State.{fresh, isUsed, isOpen, areaOf, baseOf, freeArea, freeFilter}
 use Rattle.driver.specs.Sound.{sound}
 use Rattle.driver.specs.Packet.{pidOf}
@@ -20,9 +20,10 @@ use Rattle.driver.proofs.Clauses.{sound-tells, sound-says}
 use Rattle.driver.proofs.Found.{found-area}
 use Rattle.driver.proofs.Keeps.{fresh-sound}
 use Rattle.driver.proofs.Ways.{open-ind, close-ind, packet-ind}
-use Rattle.runs.specs.Run.{Call, openCall, closeCall, packetCall, World, Event, openEvent, closeEvent, packetEvent, after, event, runFrom, logFrom, start}
-use Rattle.runs.specs.History.{Opening, Accepted, acceptedBy, accepted, isRefused, packets}
-use Rattle.runs.proofs.Ledger.{areaAt, Ledger, remembered-fine}
+use Rattle.runs.specs.Run.{Call, openCall, closeCall, packetCall, World, openEvent, closeEvent, packetEvent, after, event, start, ours}
+use Rattle.runs.specs.History.{Opening, Accepted, acceptedBy, isRefused, packets}
+use Rattle.runs.specs.Demand.{worldAfter, logOf, history}
+use Rattle.runs.proofs.Ledger.{areaAt, openingAt, Ledger, remembered-fine}
 use Rattle.runs.proofs.LedgerOpen.{open-ledger}
 use Rattle.runs.proofs.LedgerClose.{close-ledger}
 use Rattle.runs.proofs.LedgerPacket.{packet-ledger}
@@ -30,25 +31,35 @@ use Rattle.runs.proofs.LedgerPacket.{packet-ledger}
 absent-there : {f : Opening} → absent ≡ there f → ⊥
 absent-there e = let z : _≡_ {A = ℕ} 0 1 = cc in omega arith
 
+-- a list of one thing has it everywhere
+filled {ℓ} : {A : Type ℓ} (n j : ℕ) (x : A) → getD (replicate n x) j x ≡ x
+filled zero j x = refl
+filled (suc n) zero x = refl
+filled (suc n) (suc j) x = filled n j x
+
 -- before the first call nothing is open
 pub fresh-ledger : (store : List ℕ) → length store ≡ 32768 → Ledger (start store) []
 fresh-ledger store e =
     record {
       whole = e;
       eight = refl;
+      places = refl;
       clauses = sound-tells fresh fresh-sound;
       balance = λ pid. refl;
+      numbers = refl;
       given = λ number f q. absurd (absent-there q);
       ended = λ number q. absurd (false≢true q);
       stands = λ f i. absurd (absent-there (i .opened));
       known = λ j b i. absurd (false≢true (ap isOpen (sym (getD-replicate 32 j freeFilter freeFilter b)) ∙ i));
       remembers = λ i b u. absurd (false≢true (ap isUsed (sym (getD-replicate 8 i freeArea freeArea b)) ∙ u));
+      seats = λ j. filled 32 j absent ∙ ap (λ (b : Bool). cond b (there (openingAt fresh j)) absent) (sym (ap isOpen (filled 32 j freeFilter)));
+      busyAreas = refl;
       counts = tt;
-      hands = λ f i. absurd (absent-there (i .opened));
+      hands = λ f i. absurd (absent-there i);
     }
 
 module _ (w : World) (h : List Accepted) (l : Ledger w h) where
-  pub step-ledger : (c : Call) → Ledger (after w c) (acceptedBy (event w c) ++ h)
+  pub step-ledger : (c : Call) → Ledger (after ours w c) (acceptedBy (event ours w c) ++ h)
   step-ledger (openCall pid) =
       open-ind (w .state) pid (λ o. Ledger (record { state = o .state; store = w .store }) (acceptedBy (openEvent pid (o .answer)) ++ h))
       (λ n a b. l) (open-ledger w h l pid)
@@ -73,7 +84,7 @@ module _ (w : World) (h : List Accepted) (l : Ledger w h) where
   not-one : (n : ℕ) → (n ≡ 1 → sound (w .state) ≡ false) → eqb n 1 ≡ false
   not-one n a = ne-eqb n 1 (λ e. false≢true (sym (a e) ∙ fine))
 
-  pub step-quiet : (c : Call) → (isRefused 1 (event w c) ≡ false) × (isRefused 9 (event w c) ≡ false)
+  pub step-quiet : (c : Call) → (isRefused 1 (event ours w c) ≡ false) × (isRefused 9 (event ours w c) ≡ false)
   step-quiet (openCall pid) =
       open-ind (w .state) pid (λ o. (isRefused 1 (openEvent pid (o .answer)) ≡ false) × (isRefused 9 (openEvent pid (o .answer)) ≡ false))
       (λ n a b. (not-one n a, ne-eqb n 9 b)) (λ o. (refl, refl))
@@ -85,14 +96,13 @@ module _ (w : World) (h : List Accepted) (l : Ledger w h) where
       (λ o. (isRefused 1 (packetEvent p out (o .answer) (o .out)) ≡ false) × (isRefused 9 (packetEvent p out (o .answer) (o .out)) ≡ false))
       (λ n a b. (not-one n a, ne-eqb n 9 (λ e. false≢true (sym (agrees (pidOf p) (b e .0)) ∙ b e .1)))) (λ b. (refl, refl)) (λ o. (refl, refl))
 
--- a run goes on from any world that has a ledger
-pub run-ledger : (w : World) (log : List Event) → Ledger w (accepted log) → (cs : List Call) → Ledger (runFrom w cs) (accepted (logFrom w cs ++ log))
-run-ledger w log l [] = l
-run-ledger w log l (c ∷ cs) = step-ledger (runFrom w cs) (accepted (logFrom w cs ++ log)) (run-ledger w log l cs) c
+module _ (store : List ℕ) (whole : length store ≡ 32768) where
+  -- the ledger holds of every run from a fresh state
+  pub ledger : (cs : List Call) → Ledger (worldAfter ours store cs) (history ours store cs)
+  ledger [] = fresh-ledger store whole
+  ledger (c ∷ cs) = step-ledger (worldAfter ours store cs) (history ours store cs) (ledger cs) c
 
-abbrev pub Quiet : Event → Type 0
-Quiet e = (isRefused 1 e ≡ false) × (isRefused 9 e ≡ false)
-
-pub run-quiet : (w : World) (log : List Event) → Ledger w (accepted log) → Every Quiet log → (cs : List Call) → Every Quiet (logFrom w cs ++ log)
-run-quiet w log l q [] = q
-run-quiet w log l q (c ∷ cs) = (step-quiet (runFrom w cs) (accepted (logFrom w cs ++ log)) (run-ledger w log l cs) c, run-quiet w log l q cs)
+  -- and none of its calls is refused 1 or 9
+  pub quiet : (cs : List Call) → Every (λ e. (isRefused 1 e ≡ false) × (isRefused 9 e ≡ false)) (logOf ours store cs)
+  quiet [] = tt
+  quiet (c ∷ cs) = (step-quiet (worldAfter ours store cs) (history ours store cs) (ledger cs) c, quiet cs)

@@ -3,70 +3,132 @@ use mathlib.Core.Path.{_≡_}
 use mathlib.Core.Bool.{Bool, true, false, cond}
 use mathlib.Core.List.{List, [], _∷_, _++_, reverse}
 use Prim.Native.Nat.{ℕ, _+_, _<_}
-use lib.Dec.{eqb, ltb}
+use lib.Dec.{eqb}
 use lib.ListN.{length, getD}
 use Rattle.rules.specs.Answer.{refused, given}
-use Rattle.rules.specs.Walk.{Every}
-use Rattle.packet.specs.Perhaps.{there}
-use Rattle.driver.specs.State.{areaOf, isUsed, hasPid, freeArea}
+use Rattle.rules.specs.Perhaps.{there, absent}
+use Rattle.rules.specs.Set.{isIn}
+use Rattle.rules.specs.Walk.{Every, keep}
+use Rattle.rules.specs.Write.{put}
+use Rattle.gather.specs.Memory.{stateOf}
+use Rattle.driver.specs.State.{areaOf, isUsed, hasPid, baseOf, freeArea}
 use Rattle.driver.specs.Open.{Place, isHeld}
-use Rattle.driver.specs.Packet.{pidOf}
-use Rattle.runs.specs.Run.{Call, openCall, closeCall, packetCall, World, Event, openEvent, closeEvent, event, runFrom, logFrom, start, playFrom, heardFrom}
-use Rattle.runs.specs.History.{Opening, Accepted, opened, closed, packet, accepted, isRefused, opens, closes, openingOf, isClosed, packets, since, sectionsOf, handed, completed}
+use Rattle.driver.specs.Packet.{Said, pidOf, report}
+use Rattle.runs.specs.Run.{Driver, Call, openCall, closeCall, packetCall, World, Event, openEvent, closeEvent, packetEvent, after, event, runFrom, logFrom, start, playFrom, heardFrom}
+use Rattle.runs.specs.History.{Opening, Accepted, opened, closed, packet, accepted, isAccepted, isRefused, opens, closes, openingOf, isOn, isClosed, hasArea, standing, packets, since, upToClose, sectionsOf, handed, remembered, completed}
+use Rattle.runs.specs.Answers.{answerTo, outcomeAfter, written}
 
--- a filter is open: an accepted open gave its number, and no close of it was accepted
-pub record IsOpen (f : Opening) (h : List Accepted) : Type 0 where
-  pub opened : openingOf (f .number) h ≡ there f
-  pub kept : isClosed (f .number) h ≡ false
+-- ---- a run from a fresh state and a store
+abbrev pub worldAfter : Driver → List ℕ → List Call → World
+worldAfter d store calls = runFrom d (start store) calls
 
+abbrev pub logOf : Driver → List ℕ → List Call → List Event
+logOf d store calls = logFrom d (start store) calls
+
+-- what it accepted, last first
+abbrev pub history : Driver → List ℕ → List Call → List Accepted
+history d store calls = accepted (logOf d store calls)
+
+-- ---- what may be left out
+-- the call is no packet of another PID
+abbrev pub concerns : ℕ → Call → Bool
+concerns pid (openCall q) = true
+concerns pid (closeCall number) = true
+concerns pid (packetCall p lent) = eqb (pidOf p) pid
+
+-- what was asked
+abbrev pub questionOf : Event → Call
+questionOf (openEvent pid a) = openCall pid
+questionOf (closeEvent number a) = closeCall number
+questionOf (packetEvent p lent a out) = packetCall p lent
+
+-- the call is a packet of a filter's PID, or its own close
+abbrev pub isOwn : Opening → Call → Bool
+isOwn f (openCall q) = false
+isOwn f (closeCall number) = eqb number (f .number)
+isOwn f (packetCall p lent) = eqb (pidOf p) (f .pid)
+
+-- of a run's calls those that were accepted
+abbrev pub heededFrom : Driver → World → List Call → List Call
+heededFrom d w [] = []
+heededFrom d w (c ∷ cs) = cond (isAccepted (event d (runFrom d w cs) c)) (c ∷ heededFrom d w cs) (heededFrom d w cs)
+
+-- ---- what the demand speaks of
 -- an accepted packet's answer counts the sections that stand in the output
 abbrev pub IsCounted : Accepted → Type 0
 IsCounted (opened f) = Unit {0}
 IsCounted (closed number) = Unit {0}
-IsCounted (packet p r out) = r .sections ≡ length (sectionsOf r out)
+IsCounted (packet p lent r out) = r .sections ≡ length (sectionsOf r out)
 
--- the call is a packet of this PID
-abbrev pub isPacketOf : ℕ → Call → Bool
-isPacketOf pid (openCall q) = false
-isPacketOf pid (closeCall number) = false
-isPacketOf pid (packetCall p out) = eqb (pidOf p) pid
+-- a filter that is open on this PID stands at this place
+abbrev pub isOpenOn : ℕ → ℕ → List Accepted → Bool
+isOpenOn pid place h = isOn pid (getD (standing h) place absent)
 
--- of some calls the packets of a PID alone
-abbrev pub packetsOf : ℕ → List Call → List Call
-packetsOf pid [] = []
-packetsOf pid (c ∷ cs) = cond (isPacketOf pid c) (c ∷ packetsOf pid cs) (packetsOf pid cs)
-
--- the demand of a world and the log that led to it
-pub record DemandThree (w : World) (log : List Event) : Type 0 where
+-- the demand of a driver and a run of calls, last first, from a fresh state and a store
+pub record DemandThree (d : Driver) (store : List ℕ) (calls : List Call) : Type 0 where
   -- "A PID has an area exactly while more of its opens than closes were accepted"
-  pub area : (pid : ℕ) → isHeld pid (w .state .areas) ≡ ltb (closes pid (accepted log)) (opens pid (accepted log))
+  pub area : (pid : ℕ) → isHeld pid (worldAfter d store calls .state .areas) ≡ hasArea pid (history d store calls)
   -- "no two PIDs share one"
-  pub apart : (pid other : ℕ) → isHeld pid (w .state .areas) ≡ true → areaOf pid (w .state .areas) ≡ areaOf other (w .state .areas) → pid ≡ other
+  pub apart : (pid other : ℕ) → isHeld pid (worldAfter d store calls .state .areas) ≡ true
+      → areaOf pid (worldAfter d store calls .state .areas) ≡ areaOf other (worldAfter d store calls .state .areas) → pid ≡ other
   -- and no PID has two
-  pub single : (pid i j : ℕ) → i < 8 → j < 8 → hasPid pid (getD (w .state .areas) i freeArea) ≡ true → hasPid pid (getD (w .state .areas) j freeArea) ≡ true → i ≡ j
+  pub single : (pid i j : ℕ) → i < 8 → j < 8 → hasPid pid (getD (worldAfter d store calls .state .areas) i freeArea) ≡ true
+      → hasPid pid (getD (worldAfter d store calls .state .areas) j freeArea) ≡ true → i ≡ j
+  -- "each area's user count" is the opens of its PID less the closes
+  pub users : (i : ℕ) → i < 8 → isUsed (getD (worldAfter d store calls .state .areas) i freeArea) ≡ true
+      → getD (worldAfter d store calls .state .areas) i freeArea .users + closes (getD (worldAfter d store calls .state .areas) i freeArea .pid .0) (history d store calls)
+      ≡ opens (getD (worldAfter d store calls .state .areas) i freeArea .pid .0) (history d store calls)
+  -- what an area holds, in the state and in the store, is what demand 2's rule makes of the accepted packets of its PID since it was taken
+  pub holds : (i : ℕ) → i < 8 → isUsed (getD (worldAfter d store calls .state .areas) i freeArea) ≡ true
+      → stateOf (getD (worldAfter d store calls .state .areas) i freeArea .marks) (worldAfter d store calls .store) (baseOf i)
+      ≡ remembered (packets (getD (worldAfter d store calls .state .areas) i freeArea .pid .0) (history d store calls))
   -- "a closed filter number is refused for good"
-  pub gone : (number : ℕ) → isClosed number (accepted log) ≡ true → event w (closeCall number) ≡ closeEvent number (refused 16)
+  pub gone : (number : ℕ) → isClosed number (history d store calls) ≡ true → event d (worldAfter d store calls) (closeCall number) ≡ closeEvent number (refused 16)
   -- it is never given again
-  pub never : (number pid : ℕ) (a : Place) → isClosed number (accepted log) ≡ true → event w (openCall pid) ≡ openEvent pid (given a) → a .number ≡ number → ⊥
+  pub never : (number pid : ℕ) (a : Place) → isClosed number (history d store calls) ≡ true
+      → event d (worldAfter d store calls) (openCall pid) ≡ openEvent pid (given a) → a .number ≡ number → ⊥
   -- nor is any number given twice
-  pub once : (number pid : ℕ) (a : Place) (f : Opening) → openingOf number (accepted log) ≡ there f → event w (openCall pid) ≡ openEvent pid (given a) → a .number ≡ number → ⊥
-  -- "What an open filter is handed is exactly the sections that demand 2's rule completes, since its open, from the accepted packets of its PID since the area was taken"
-  pub hands : (f : Opening) → IsOpen f (accepted log) → handed f (accepted log) ≡ completed (since f (accepted log)) (packets (f .pid) (accepted log))
-  -- "No packet of another PID and no later open or close by others changes it": whatever is called later, as long as the filter is open, only the packets of its PID count
-  pub alone : (f : Opening) (later : List Call) → openingOf (f .number) (accepted log) ≡ there f → IsOpen f (accepted (logFrom w later ++ log))
-      → handed f (accepted (logFrom w (packetsOf (f .pid) later) ++ log)) ≡ handed f (accepted (logFrom w later ++ log))
-  -- beside it: "each area's user count" is the opens of its PID less the closes
-  pub users : (i : ℕ) → i < 8 → isUsed (getD (w .state .areas) i freeArea) ≡ true
-      → getD (w .state .areas) i freeArea .users + closes (getD (w .state .areas) i freeArea .pid .0) (accepted log) ≡ opens (getD (w .state .areas) i freeArea .pid .0) (accepted log)
+  pub once : (number pid : ℕ) (a : Place) (f : Opening) → openingOf number (history d store calls) ≡ there f
+      → event d (worldAfter d store calls) (openCall pid) ≡ openEvent pid (given a) → a .number ≡ number → ⊥
+  -- whatever is called next is answered by what was accepted before it, and by nothing else
+  pub answers : (c : Call) → event d (worldAfter d store calls) c ≡ answerTo (history d store calls) c
+  -- so refusals 1 and 9 never occurred
+  pub refusals : Every (λ e. (isRefused 1 e ≡ false) × (isRefused 9 e ≡ false)) (logOf d store calls)
+  -- of each accepted packet: a place is in the set exactly if a filter that is open on the packet's PID stands there; nobody else is told
+  pub set : (p lent out : List ℕ) (r : Said) → event d (worldAfter d store calls) (packetCall p lent) ≡ packetEvent p lent (given r) out → r .wanted ≡ true
+      → (place : ℕ) → isIn place (r .places) ≡ isOpenOn (pidOf p) place (history d store calls)
+  -- of each accepted packet: sections, bytes, jump, repeat and given up are those of demand 2's rule after the accepted packets of its PID since the area was taken,
+  -- and every byte of the output is the sections joined and then what was lent
+  pub whole : (p lent out : List ℕ) (r : Said) → event d (worldAfter d store calls) (packetCall p lent) ≡ packetEvent p lent (given r) out → r .wanted ≡ true
+      → (r ≡ report (outcomeAfter (history d store calls) p) (r .places)) × (out ≡ written (outcomeAfter (history d store calls) p) lent)
+  -- of each accepted packet: of the store only the bytes that its PID's area holds after it are written
+  pub writes : (p lent : List ℕ) → isAccepted (event d (worldAfter d store calls) (packetCall p lent)) ≡ true
+      → after d (worldAfter d store calls) (packetCall p lent) .store
+      ≡ put (worldAfter d store calls .store) (baseOf (areaOf (pidOf p) (worldAfter d store calls .state .areas))) (outcomeAfter (history d store calls) p .next .held)
   -- the number of sections in an answer is that of the sections in the output
-  pub counts : Every IsCounted (accepted log)
-  -- and refusals 1 and 9 never occurred
-  pub refusals : Every (λ e. (isRefused 1 e ≡ false) × (isRefused 9 e ≡ false)) log
+  pub counts : Every IsCounted (history d store calls)
+  -- "What an open filter is handed is exactly the sections that demand 2's rule completes, since its open, from the accepted packets of its PID since the area was taken";
+  -- what a filter is handed ends with its close
+  pub hands : (f : Opening) → openingOf (f .number) (history d store calls) ≡ there f
+      → handed f (history d store calls)
+      ≡ completed (since f (upToClose (f .number) (history d store calls))) (packets (f .pid) (upToClose (f .number) (history d store calls)))
+  -- "No packet of another PID .. changes it": leaving out every packet of other PIDs, wherever it stands, leaves every other answer as it was
+  pub others : (pid : ℕ) → logOf d store (keep (concerns pid) calls) ≡ keep (λ e. concerns pid (questionOf e)) (logOf d store calls)
+  -- ".. and no later open or close by others changes it": of the later calls only the packets of a filter's PID and its own close count
+  pub alone : (f : Opening) (later before : List Call) → calls ≡ later ++ before → openingOf (f .number) (history d store before) ≡ there f
+      → handed f (history d store (keep (isOwn f) later ++ keep (concerns (f .pid)) before)) ≡ handed f (history d store calls)
+  -- a call that is refused, or a packet that is not wanted, leaves the state and every byte of the store as they were
+  pub still : (c : Call) → isAccepted (event d (worldAfter d store calls) c) ≡ false → after d (worldAfter d store calls) c ≡ worldAfter d store calls
+  -- leaving out every refused and every unwanted call, wherever it stands, changes no state, no byte of the store, and no other answer
+  pub idle : (worldAfter d store (heededFrom d (start store) calls) ≡ worldAfter d store calls)
+      × (logOf d store (heededFrom d (start store) calls) ≡ keep isAccepted (logOf d store calls))
 
 -- the demand of every run, from every store of 32,768 bytes
-abbrev pub Statement : Type 0
-Statement = (store : List ℕ) (calls : List Call) → length store ≡ 32768 → DemandThree (runFrom (start store) calls) (logFrom (start store) calls)
+abbrev pub Statement : Driver → Type 0
+Statement d = (store : List ℕ) (calls : List Call) → length store ≡ 32768 → DemandThree d store calls
 
--- the same for calls as they come: their log, turned round, stands last first
-abbrev pub InOrder : Type 0
-InOrder = (store : List ℕ) (calls : List Call) → length store ≡ 32768 → DemandThree (playFrom (start store) calls) (reverse (heardFrom (start store) calls))
+-- calls as they come lead to the same world and the same log, which is only turned round
+abbrev pub InOrder : Driver → Type 0
+InOrder d =
+    (store : List ℕ) (calls : List Call)
+    → (playFrom d (start store) calls ≡ worldAfter d store (reverse calls)) × (heardFrom d (start store) calls ≡ reverse (logOf d store (reverse calls)))

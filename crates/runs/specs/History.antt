@@ -1,17 +1,16 @@
 -- What a log says, read from its questions and answers alone, never from a state.
-use mathlib.Core.Bool.{Bool, false, cond, _&&_, _||_}
-use mathlib.Core.List.{List, [], _∷_, _++_, reverse}
-use Prim.Native.Nat.{ℕ, suc, _+_}
-use lib.Dec.{eqb}
-use lib.ListN.{take, drop}
+use mathlib.Core.Bool.{Bool, true, false, cond, not, _&&_, _||_}
+use mathlib.Core.List.{List, [], _∷_, _++_, map, reverse}
+use Prim.Native.Nat.{ℕ, suc, _+_, _-_}
+use lib.Dec.{eqb, ltb}
+use lib.ListN.{take, drop, set, replicate}
 use Rattle.rules.specs.Answer.{refused, given}
-use Rattle.rules.specs.Number.{bits}
-use Rattle.packet.specs.Perhaps.{Perhaps, there, absent}
-use Rattle.gather.specs.Rule.{State, Packet, unseen}
+use Rattle.rules.specs.Perhaps.{Perhaps, there, absent}
+use Rattle.rules.specs.Set.{isIn}
+use Rattle.gather.specs.Rule.{State, Packet, blank}
 use Rattle.gather.specs.Run.{run}
-use Rattle.gather.specs.Section.{cut}
-use Rattle.driver.specs.Packet.{wanted, unwanted, contents, pidOf, payloadOf}
-use Rattle.driver.specs.declared.Report.{Report}
+use Rattle.gather.specs.Kind.{cut}
+use Rattle.driver.specs.Packet.{Said, pidOf, packetFrom}
 use Rattle.runs.specs.Run.{Event, openEvent, closeEvent, packetEvent}
 
 -- ---- what was accepted
@@ -21,11 +20,11 @@ pub record Opening : Type 0 where
   pub pid : ℕ
   pub place : ℕ
 
--- an accepted call with its answer
+-- an accepted call with its answer: of a packet its bytes and the output lent for it, what was said, and the output after it
 pub data Accepted : Type 0 where
   opened : Opening → Accepted
   closed : ℕ → Accepted
-  packet : List ℕ → Report → List ℕ → Accepted
+  packet : List ℕ → List ℕ → Said → List ℕ → Accepted
 
 -- what an event accepted: a refused call and a packet that is not wanted are nothing
 abbrev pub acceptedBy : Event → List Accepted
@@ -33,9 +32,17 @@ acceptedBy (openEvent pid (given a)) = opened (record { number = a .number; pid 
 acceptedBy (openEvent pid (refused n)) = []
 acceptedBy (closeEvent number (given u)) = closed number ∷ []
 acceptedBy (closeEvent number (refused n)) = []
-acceptedBy (packetEvent p lent (given (wanted r)) out) = packet p r out ∷ []
-acceptedBy (packetEvent p lent (given unwanted) out) = []
+acceptedBy (packetEvent p lent (given r) out) = cond (r .wanted) (packet p lent r out ∷ []) []
 acceptedBy (packetEvent p lent (refused n) out) = []
+
+-- whether it accepted anything
+abbrev pub isAccepted : Event → Bool
+isAccepted (openEvent pid (given a)) = true
+isAccepted (openEvent pid (refused n)) = false
+isAccepted (closeEvent number (given u)) = true
+isAccepted (closeEvent number (refused n)) = false
+isAccepted (packetEvent p lent (given r) out) = r .wanted
+isAccepted (packetEvent p lent (refused n) out) = false
 
 -- what a log accepted, last first
 abbrev pub accepted : List Event → List Accepted
@@ -48,23 +55,30 @@ isRefused m (openEvent pid (given a)) = false
 isRefused m (openEvent pid (refused n)) = eqb n m
 isRefused m (closeEvent number (given u)) = false
 isRefused m (closeEvent number (refused n)) = eqb n m
-isRefused m (packetEvent p lent (given said) out) = false
+isRefused m (packetEvent p lent (given r) out) = false
 isRefused m (packetEvent p lent (refused n) out) = eqb n m
 
 -- ---- opens and closes
+-- how many opens were accepted, and so how many numbers were given
+abbrev pub numbersGiven : List Accepted → ℕ
+numbersGiven [] = 0
+numbersGiven (opened f ∷ h) = numbersGiven h + 1
+numbersGiven (closed number ∷ h) = numbersGiven h
+numbersGiven (packet p lent r out ∷ h) = numbersGiven h
+
 -- how many opens of a PID were accepted
 abbrev pub opens : ℕ → List Accepted → ℕ
 opens pid [] = 0
 opens pid (opened f ∷ h) = cond (eqb (f .pid) pid) 1 0 + opens pid h
 opens pid (closed number ∷ h) = opens pid h
-opens pid (packet p r out ∷ h) = opens pid h
+opens pid (packet p lent r out ∷ h) = opens pid h
 
 -- the open that gave a number
 abbrev pub openingOf : ℕ → List Accepted → Perhaps Opening
 openingOf number [] = absent
 openingOf number (opened f ∷ h) = cond (eqb (f .number) number) (there f) (openingOf number h)
 openingOf number (closed n ∷ h) = openingOf number h
-openingOf number (packet p r out ∷ h) = openingOf number h
+openingOf number (packet p lent r out ∷ h) = openingOf number h
 
 -- the open that gave a number was of this PID
 abbrev pub isOn : ℕ → Perhaps Opening → Bool
@@ -76,59 +90,82 @@ abbrev pub closes : ℕ → List Accepted → ℕ
 closes pid [] = 0
 closes pid (opened f ∷ h) = closes pid h
 closes pid (closed number ∷ h) = cond (isOn pid (openingOf number h)) 1 0 + closes pid h
-closes pid (packet p r out ∷ h) = closes pid h
+closes pid (packet p lent r out ∷ h) = closes pid h
 
 -- a close of this number was accepted
 abbrev pub isClosed : ℕ → List Accepted → Bool
 isClosed number [] = false
 isClosed number (opened f ∷ h) = isClosed number h
 isClosed number (closed n ∷ h) = eqb n number || isClosed number h
-isClosed number (packet p r out ∷ h) = isClosed number h
+isClosed number (packet p lent r out ∷ h) = isClosed number h
+
+-- "A PID has an area exactly while more of its opens than closes were accepted"
+abbrev pub hasArea : ℕ → List Accepted → Bool
+hasArea pid h = ltb (closes pid h) (opens pid h)
+
+-- an open, unless it gave this number
+abbrev pub unless : ℕ → Perhaps Opening → Perhaps Opening
+unless number absent = absent
+unless number (there f) = cond (eqb (f .number) number) absent (there f)
+
+-- the 32 filter places: at each the open whose filter stands there, if one does
+abbrev pub standing : List Accepted → List (Perhaps Opening)
+standing [] = replicate 32 absent
+standing (opened f ∷ h) = set (standing h) (f .place) (there f)
+standing (closed number ∷ h) = map (unless number) (standing h)
+standing (packet p lent r out ∷ h) = standing h
+
+-- a close of a number leaves its PID without an area
+abbrev pub isLast : Perhaps Opening → List Accepted → Bool
+isLast absent h = false
+isLast (there f) h = not (hasArea (f .pid) h)
+
+-- how many areas are taken: an open takes one where its PID has none, and the last close on a PID frees it
+abbrev pub areasTaken : List Accepted → ℕ
+areasTaken [] = 0
+areasTaken (opened f ∷ h) = areasTaken h + cond (hasArea (f .pid) h) 0 1
+areasTaken (closed number ∷ h) = areasTaken h - cond (isLast (openingOf number h) (closed number ∷ h)) 1 0
+areasTaken (packet p lent r out ∷ h) = areasTaken h
 
 -- ---- packets
--- what a packet brings to the rule: its counter, its unit start, and its payload
-abbrev pub packetFrom : List ℕ → Packet
-packetFrom p = record { counter = contents p .counter; start = contents p .unitStart; payload = payloadOf p }
-
 -- the accepted packets of a PID since its area was taken, last first: an open takes the area where as many of the PID's opens as closes were accepted before it
 abbrev pub packets : ℕ → List Accepted → List Packet
 packets pid [] = []
 packets pid (opened f ∷ h) = cond (eqb (f .pid) pid && eqb (opens pid h) (closes pid h)) [] (packets pid h)
 packets pid (closed number ∷ h) = packets pid h
-packets pid (packet p r out ∷ h) = cond (eqb (pidOf p) pid) (packetFrom p ∷ packets pid h) (packets pid h)
+packets pid (packet p lent r out ∷ h) = cond (eqb (pidOf p) pid) (packetFrom p ∷ packets pid h) (packets pid h)
 
 -- how many accepted packets of its PID came since a filter's open
 abbrev pub since : Opening → List Accepted → ℕ
 since f [] = 0
 since f (opened g ∷ h) = cond (eqb (g .number) (f .number)) 0 (since f h)
 since f (closed number ∷ h) = since f h
-since f (packet p r out ∷ h) = cond (eqb (pidOf p) (f .pid)) (suc (since f h)) (since f h)
+since f (packet p lent r out ∷ h) = cond (eqb (pidOf p) (f .pid)) (suc (since f h)) (since f h)
+
+-- a history up to the close of a number, the whole where it was not closed
+abbrev pub upToClose : ℕ → List Accepted → List Accepted
+upToClose number [] = []
+upToClose number (opened f ∷ h) = cond (isClosed number h) (upToClose number h) (opened f ∷ h)
+upToClose number (closed n ∷ h) = cond (isClosed number h) (upToClose number h) (cond (eqb n number) h (closed n ∷ h))
+upToClose number (packet p lent r out ∷ h) = cond (isClosed number h) (upToClose number h) (packet p lent r out ∷ h)
 
 -- ---- what a filter was handed
--- a place is in "the set of filter places on the PID as 32 bits"
-abbrev pub isIn : ℕ → ℕ → Bool
-isIn place places = eqb (bits places place 1) 1
-
 -- the sections that stand in as many output bytes as the answer says
-abbrev pub sectionsOf : Report → List ℕ → List (List ℕ)
+abbrev pub sectionsOf : Said → List ℕ → List (List ℕ)
 sectionsOf r out = cut (take (r .bytes) out)
 
 -- what one packet handed to a filter: those sections, where the answer's set has its place
-abbrev pub handedBy : Opening → Report → List ℕ → List (List ℕ)
+abbrev pub handedBy : Opening → Said → List ℕ → List (List ℕ)
 handedBy f r out = cond (isIn (f .place) (r .places)) (sectionsOf r out) []
 
--- what a filter was handed by the accepted packets since its open, in order
+-- what a filter was handed by the accepted packets from its open to its close, in order
 abbrev pub handed : Opening → List Accepted → List (List ℕ)
 handed f [] = []
 handed f (opened g ∷ h) = cond (eqb (g .number) (f .number)) [] (handed f h)
 handed f (closed number ∷ h) = handed f h
-handed f (packet p r out ∷ h) = handed f h ++ handedBy f r out
+handed f (packet p lent r out ∷ h) = handed f h ++ cond (isClosed (f .number) h) [] (handedBy f r out)
 
 -- ---- what the rule completes
--- an area that was just taken
-abbrev pub blank : State
-blank = record { held = []; last = unseen }
-
 -- what an area remembers after packets, last first, that came since it was taken
 unfoldable pub remembered : List Packet → State
 remembered ps = run blank (reverse ps) .next

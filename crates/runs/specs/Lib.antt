@@ -1,3 +1,6 @@
 pub mod Run
 pub mod History
+pub mod Answers
 pub mod Demand
+pub mod Wrong
+pub mod Promises

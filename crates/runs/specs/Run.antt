@@ -3,10 +3,20 @@ use mathlib.Core.List.{List, [], _∷_}
 use Prim.Native.Nat.{ℕ}
 use Rattle.rules.specs.Answer.{Answer}
 use Rattle.driver.specs.State.{fresh}
-use Rattle.driver.specs.Open.{Place, openOf}
-use Rattle.driver.specs.Close.{closeOf}
-use Rattle.driver.specs.Packet.{Said, packetOf}
+use Rattle.driver.specs.Open.{Place, AfterOpen, openOf}
+use Rattle.driver.specs.Close.{Outcome, closeOf}
+use Rattle.driver.specs.Packet.{Said, After, packetOf}
 use Rattle.driver.specs.declared.State.{State}
+
+-- a driver, by what its three calls leave. The demand is stated of any, so that a wrong one can be held to it
+pub record Driver : Type 0 where
+  pub onOpen : State → ℕ → AfterOpen
+  pub onClose : State → ℕ → Outcome
+  pub onPacket : State → List ℕ → List ℕ → List ℕ → After
+
+-- ours, by the definitions that its calls promise to meet
+abbrev pub ours : Driver
+ours = record { onOpen = openOf; onClose = closeOf; onPacket = packetOf }
 
 -- a call: an open of a PID, a close of a number, or a packet with the output buffer that is lent for it; any values, for refused calls are calls
 pub data Call : Type 0 where
@@ -25,38 +35,39 @@ pub data Event : Type 0 where
   closeEvent : ℕ → Answer (Unit {0}) → Event
   packetEvent : List ℕ → List ℕ → Answer Said → List ℕ → Event
 
--- the world after a call, by the driver's own definitions
-abbrev pub after : World → Call → World
-after w (openCall pid) = record { state = openOf (w .state) pid .state; store = w .store }
-after w (closeCall number) = record { state = closeOf (w .state) number .state; store = w .store }
-after w (packetCall p out) = record { state = packetOf (w .state) p (w .store) out .state; store = packetOf (w .state) p (w .store) out .store }
+module _ (d : Driver) where
+  -- the world after a call
+  abbrev pub after : World → Call → World
+  after w (openCall pid) = record { state = d .onOpen (w .state) pid .state; store = w .store }
+  after w (closeCall number) = record { state = d .onClose (w .state) number .state; store = w .store }
+  after w (packetCall p lent) = record { state = d .onPacket (w .state) p (w .store) lent .state; store = d .onPacket (w .state) p (w .store) lent .store }
 
--- the event of a call, by the same definitions
-abbrev pub event : World → Call → Event
-event w (openCall pid) = openEvent pid (openOf (w .state) pid .answer)
-event w (closeCall number) = closeEvent number (closeOf (w .state) number .answer)
-event w (packetCall p out) = packetEvent p out (packetOf (w .state) p (w .store) out .answer) (packetOf (w .state) p (w .store) out .out)
+  -- the event of a call
+  abbrev pub event : World → Call → Event
+  event w (openCall pid) = openEvent pid (d .onOpen (w .state) pid .answer)
+  event w (closeCall number) = closeEvent number (d .onClose (w .state) number .answer)
+  event w (packetCall p lent) = packetEvent p lent (d .onPacket (w .state) p (w .store) lent .answer) (d .onPacket (w .state) p (w .store) lent .out)
 
--- calls and logs stand last first: `c ∷ cs` is "run cs, then c"
-abbrev pub runFrom : World → List Call → World
-runFrom w [] = w
-runFrom w (c ∷ cs) = after (runFrom w cs) c
+  -- calls and logs stand last first: `c ∷ cs` is "run cs, then c"
+  abbrev pub runFrom : World → List Call → World
+  runFrom w [] = w
+  runFrom w (c ∷ cs) = after (runFrom w cs) c
 
--- the log of a run
-abbrev pub logFrom : World → List Call → List Event
-logFrom w [] = []
-logFrom w (c ∷ cs) = event (runFrom w cs) c ∷ logFrom w cs
+  -- the log of a run
+  abbrev pub logFrom : World → List Call → List Event
+  logFrom w [] = []
+  logFrom w (c ∷ cs) = event (runFrom w cs) c ∷ logFrom w cs
+
+  -- the same for calls as they come, first first
+  abbrev pub playFrom : World → List Call → World
+  playFrom w [] = w
+  playFrom w (c ∷ cs) = playFrom (after w c) cs
+
+  -- what is heard of calls as they come
+  abbrev pub heardFrom : World → List Call → List Event
+  heardFrom w [] = []
+  heardFrom w (c ∷ cs) = event w c ∷ heardFrom (after w c) cs
 
 -- the fresh state and a store
 abbrev pub start : List ℕ → World
 start store = record { state = fresh; store = store }
-
--- the same for calls as they come, first first
-abbrev pub playFrom : World → List Call → World
-playFrom w [] = w
-playFrom w (c ∷ cs) = playFrom (after w c) cs
-
--- what is heard of calls as they come
-abbrev pub heardFrom : World → List Call → List Event
-heardFrom w [] = []
-heardFrom w (c ∷ cs) = event w c ∷ heardFrom (after w c) cs

@@ -1,11 +1,10 @@
 // The third demand: what any run of calls hands to whom. The definitions are in specs/, the proof in proofs/.
-ghost use mathlib.Core.Path.{_≡_};
-ghost use mathlib.Core.Bool.{true};
-ghost use Rattle.runs.specs.Demand.{Statement, InOrder};
+ghost use Rattle.rules.specs.Outcome.{Stated};
+ghost use Rattle.runs.specs.Promises.{DemandThreeHolds};
 
-// True, and with it the third demand: of every run of calls, also as they come.
+// True, and with it the third demand: of every run of calls, also as they come, and of none of the wrong drivers.
 pub fn demand_three() -> bool
-    ensures { λ r. ⌜ (r ≡ true) × Statement × InOrder ⌝ }
+    ensures { λ r. ⌜ Stated DemandThreeHolds r ⌝ }
 {
     true
 }

@@ -1,5 +1,6 @@
--- Document 01, "Examples (★ to be proved)": all ★ cases, in document 01's order. Each layer's cases, with what they claim, stand in its own Stars.antt.
-use mathlib.Core.List.{List, [], _∷_, _++_, map}
+-- Document 01, "Examples (★ to be proved)": all ★ cases, by layer. Each layer's cases, with what they claim, stand in its own Stars.antt.
+use mathlib.Core.List.{List, _++_, map}
+use Rattle.rules.specs.Walk.{Every}
 use Rattle.clock.specs.Stars as time
 use Rattle.packet.specs.Stars as packets
 use Rattle.gather.specs.Stars as gathering
@@ -30,5 +31,9 @@ cases =
     ++ map inPacket packets.cases
     -- "control 11, length 182, unit start", "control 01, pointer 183", "pointer 182, last byte 0x80: one byte held"
     ++ map inGathering gathering.cases
-    -- "eight PIDs held", and the two refusals 11 as the packet call gives them
+    -- "eight PIDs held", and the two refusals 11 and the one byte held as the packet call gives them
     ++ map inFilters filters.cases
+
+-- each of them is right
+abbrev pub EveryCase : Type 0
+EveryCase = Every Right cases

@@ -4,17 +4,16 @@ use mathlib.Core.Path.{_≡_, refl}
 use mathlib.Core.Bool.{Bool, true, false, cond, not, _&&_}
 use mathlib.Core.List.{List}
 use Prim.Native.Nat.{ℕ, _+_}
-use Rattle.tables.specs.Walk.{walkDescriptors}
-use Rattle.tables.specs.Pmt.{bodyOf, infoLength, programOf, streamsOf, foundIn}
-use Rattle.tables.specs.declared.walk.Ask.{Ask}
-use Rattle.tables.specs.declared.walk.Walked.{Walked}
+use Rattle.rules.specs.Answer.{Answer, refused, given}
+use Rattle.rules.specs.Refusal.{judge}
+use Rattle.tables.specs.Pmt.{bodyOf, infoLength, programOf, streamsOf, pmtLoops}
+use Rattle.tables.specs.Steps.Walk.{Found, met, walkDescriptors, foundIn}
 
-turned : (t : Bool) (x y : Walked) → cond t x y ≡ cond (not t) y x
+turned : (t : Bool) (x y : Answer Found) → cond t x y ≡ cond (not t) y x
 turned true x y = refl
 turned false x y = refl
 
-pub body-walk : (s : List ℕ) (ask : Ask)
-    → walkDescriptors (bodyOf s) 12 (12 + infoLength s) 0 0 ask (record { loops = 0; start = 0; size = 0; place = 0 })
-    ≡ cond (not (programOf s .fills && streamsOf s .fills)) (Walked.Refused 26) (Walked.Whole (foundIn s ask))
+pub body-walk : (asked item : ℕ) (s : List ℕ)
+    → walkDescriptors asked item (bodyOf s) 12 (12 + infoLength s) 0 (met 0 0) ≡ judge refused (pmtLoops s) (given (foundIn asked item s))
 unfolding walkDescriptors programOf streamsOf
-body-walk s ask = turned (programOf s .fills && streamsOf s .fills) (Walked.Whole (foundIn s ask)) (Walked.Refused 26)
+body-walk asked item s = turned (programOf s .fills && streamsOf s .fills) (given (foundIn asked item s)) (refused 26)

@@ -3,15 +3,14 @@ pub mod Parts
 pub mod Loop
 pub mod Entries
 pub mod Steps
-pub mod Fields
 pub mod Above
 pub mod Carried
 pub mod Programs
 pub mod Fine
 pub mod Body
-pub mod Seek
 pub mod Stand
+pub mod Seek
 pub mod Placed
 pub mod Answers
 pub mod Limits
-pub mod Outcomes
+pub mod Claims

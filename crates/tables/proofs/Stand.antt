@@ -12,7 +12,8 @@ use lib.Dec.{leb}
 use lib.ListN.{length, getD, take, drop, take-append-drop}
 use lib.Seq.{slice, slice-empty, length-slice, drop-length, take-take, length-take-le, drop-drop, getD-take}
 use Rattle.rules.specs.Walk.{Every}
-use Rattle.tables.specs.Loop.{Loop, unfilled, onto, Descriptor, Entry, descriptorsOf, entriesOf, laidOut, joined, entryLaidOut}
+use Rattle.tables.specs.Loop.{Loop, unfilled, onto, Descriptor, Entry, descriptorsOf, entriesOf}
+use Rattle.tables.specs.Claims.{joined, laidOut, entryLaidOut}
 use Rattle.tables.proofs.Parts.{drop-slice, slice-two, slice-take}
 use Rattle.tables.proofs.Loop.{no-descriptors, lone-byte, overrun, descriptor}
 use Rattle.tables.proofs.Entries.{wordFrom, no-entries, entry-short, entry-bits, entry-over, entry-on}

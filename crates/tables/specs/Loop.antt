@@ -1,12 +1,11 @@
--- The loops of a section: programs of a PAT, descriptors, and entries of a PMT with their descriptors (document 01, Tables).
+-- The loops of a section: entries of a PAT, descriptors, and entries of a PMT with their descriptors (document 01, Tables).
 use mathlib.Core.Bool.{Bool, true, false, cond, _&&_}
-use mathlib.Core.List.{List, [], _∷_, _++_}
+use mathlib.Core.List.{List, [], _∷_}
 use Prim.Native.Nat.{ℕ, zero, suc, _+_}
 use lib.Dec.{leb, eqb}
-use lib.ListN.{length, getD, take, drop}
+use lib.ListN.{length, take, drop}
 use Rattle.rules.specs.Number.{bits}
-use Rattle.tables.specs.Section.{wordOf, wordAt, byteAt, pidOf}
-use Rattle.tables.specs.declared.pat.Program.{Program}
+use Rattle.tables.specs.Section.{wordAt}
 
 -- What a loop's bytes hold, and whether its items fill it exactly
 pub record Loop (A : Type 0) : Type 0 where
@@ -21,19 +20,13 @@ unfilled = record { fills = false; items = [] }
 abbrev pub onto : {A : Type 0} → A → Loop A → Loop A
 onto a l = record { fills = l .fills; items = a ∷ l .items }
 
--- A PAT's entry, with its four bytes as they stand
-pub record Association : Type 0 where
-  pub own : Program
-  pub bytes : List ℕ
-
--- "four bytes an entry, program_number 16, PID 13"
-abbrev pub programsOf : List ℕ → Loop Association
-programsOf [] = record { fills = true; items = [] }
-programsOf (a ∷ []) = unfilled
-programsOf (a ∷ b ∷ []) = unfilled
-programsOf (a ∷ b ∷ c ∷ []) = unfilled
-programsOf (a ∷ b ∷ c ∷ d ∷ rest) =
-    onto (record { own = record { number = wordOf a b; pid = pidOf (wordOf c d) }; bytes = a ∷ b ∷ c ∷ d ∷ [] }) (programsOf rest)
+-- "four bytes an entry": the four bytes of each
+abbrev pub foursOf : List ℕ → Loop (List ℕ)
+foursOf [] = record { fills = true; items = [] }
+foursOf (a ∷ []) = unfilled
+foursOf (a ∷ b ∷ []) = unfilled
+foursOf (a ∷ b ∷ c ∷ []) = unfilled
+foursOf (a ∷ b ∷ c ∷ d ∷ rest) = onto (a ∷ b ∷ c ∷ d ∷ []) (foursOf rest)
 
 -- A descriptor: its place in the section, its tag and its bytes
 pub record Descriptor : Type 0 where
@@ -82,16 +75,3 @@ entriesUpTo (suc most) at (x ∷ xs) =
 -- The entries whose bytes start at the place `at`: there cannot be more of them than bytes
 unfoldable pub entriesOf : ℕ → List ℕ → Loop Entry
 entriesOf at bytes = entriesUpTo (length bytes) at bytes
-
--- A descriptor laid out again as the bytes that it stands for
-abbrev pub laidOut : Descriptor → List ℕ
-laidOut d = d .tag ∷ length (d .bytes) ∷ d .bytes
-
--- What items are laid out as, side by side
-abbrev pub joined : {A : Type 0} → (A → List ℕ) → List A → List ℕ
-joined f [] = []
-joined f (x ∷ xs) = f x ++ joined f xs
-
--- An entry laid out again, followed by its descriptors
-abbrev pub entryLaidOut : Entry → List ℕ
-entryLaidOut e = e .lead ++ joined laidOut (e .descriptors)

@@ -4,16 +4,16 @@ use mathlib.Core.List.{List, [], _∷_, _++_}
 use Prim.Native.Nat.{ℕ}
 use lib.Dec.{ltb, leb}
 use lib.ListN.{length, getD}
+use Rattle.rules.specs.Answer.{Answer, refused, given}
 use Rattle.rules.specs.Refusal.{Row, judge, _when_}
-use Rattle.tables.specs.Section.{byteAt, headOf, before}
+use Rattle.tables.specs.Answers.{PatHeading, Association}
+use Rattle.tables.specs.Section.{byteAt, wordAt, headingOf, before, pidField}
 use Rattle.tables.specs.Refusals.{shared}
-use Rattle.tables.specs.Loop.{Loop, Association, programsOf}
-use Rattle.tables.specs.declared.pat.PatHeader.{PatHeader}
-use Rattle.tables.specs.declared.pat.PatEntry.{PatEntry}
+use Rattle.tables.specs.Loop.{Loop, foursOf}
 
--- The entries, from byte 8 up to CRC_32
-unfoldable pub patOf : List ℕ → Loop Association
-patOf s = programsOf (before 8 s)
+-- The entries, from byte 8 up to CRC_32: the four bytes of each
+unfoldable pub patOf : List ℕ → Loop (List ℕ)
+patOf s = foursOf (before 8 s)
 
 -- Refusals 24 and 26: "section_number above last_section_number"; "entries don't fill their loop"
 abbrev pub patOwn : List ℕ → List Row
@@ -23,16 +23,26 @@ patOwn s = (24 when ltb (byteAt s 7) (byteAt s 6)) ∷ (26 when not (patOf s .fi
 abbrev pub patRefusals : List ℕ → List Row
 patRefusals s = shared 0 9 s ++ patOwn s
 
+-- What a PAT's header says
+abbrev pub patHeadingOf : List ℕ → PatHeading
+patHeadingOf s = record { heading = headingOf s; entries = length (patOf s .items) }
+
 -- The header, or the first refusal that applies
-abbrev pub patHeaderOf : List ℕ → PatHeader
-patHeaderOf s = judge PatHeader.Refused (patRefusals s) (PatHeader.Header (headOf s) (length (patOf s .items)))
+abbrev pub patHeaderOf : List ℕ → Answer PatHeading
+patHeaderOf s = judge refused (patRefusals s) (given (patHeadingOf s))
 
--- What stands for an entry that is not there
-abbrev pub noAssociation : Association
-noAssociation = record { own = record { number = 0; pid = 0 }; bytes = [] }
+-- "program_number 16, PID 13", in the four bytes of an entry
+abbrev pub associationOf : List ℕ → Association
+associationOf bytes = record { programNumber = wordAt bytes 0; pid = pidField (wordAt bytes 2) }
 
--- The entry with an index, or the first refusal that applies; 27: "no entry with that index, counted from 0"
-abbrev pub patEntryOf : List ℕ → ℕ → PatEntry
-patEntryOf s i =
-    judge PatEntry.Refused (patRefusals s ++ ((27 when leb (length (patOf s .items)) i) ∷ []))
-    (PatEntry.Entry (getD (patOf s .items) i noAssociation .own))
+-- Refusal 27: "no entry with that index, counted from 0"
+abbrev pub patMissing : List ℕ → ℕ → List Row
+patMissing s i = (27 when leb (length (patOf s .items)) i) ∷ []
+
+-- Refusals 20, 23, 21, 25, 22, 24, 26, 27
+abbrev pub patEntryRefusals : List ℕ → ℕ → List Row
+patEntryRefusals s i = patRefusals s ++ patMissing s i
+
+-- The entry with an index, or the first refusal that applies
+abbrev pub patEntryOf : List ℕ → ℕ → Answer Association
+patEntryOf s i = judge refused (patEntryRefusals s i) (given (associationOf (getD (patOf s .items) i [])))

@@ -1,12 +1,13 @@
 -- The refusals that a PAT and a PMT share, in the order 20, 23, 21, 25, 22 (document 01, Refusal numbers).
 use mathlib.Core.Bool.{Bool, not}
 use mathlib.Core.List.{List, [], _∷_}
-use Prim.Native.Nat.{ℕ, _+_}
+use Prim.Native.Nat.{ℕ}
 use lib.Dec.{ltb, leb, eqb}
 use lib.ListN.{length}
 use Rattle.rules.specs.Refusal.{Row, _when_}
 use Rattle.crc.specs.Figure.{right}
-use Rattle.tables.specs.Section.{sectionLength, tableId, syntaxIndicator, bitAfter}
+use Rattle.section.specs.Section.{sectionLength, sectionSize}
+use Rattle.tables.specs.Section.{tableId, syntaxIndicator, bitAfter}
 
 -- a is above b
 abbrev pub above : ℕ → ℕ → Bool
@@ -17,7 +18,7 @@ abbrev pub shared : ℕ → ℕ → List ℕ → List Row
 shared asked least s =
     (20 when ltb (length s) 3) ∷
     (20 when above (sectionLength s) 4093) ∷
-    (20 when not (eqb (length s) (3 + sectionLength s))) ∷
+    (20 when not (eqb (length s) (sectionSize s))) ∷
     (23 when not (eqb (tableId s) asked)) ∷
     (21 when not (eqb (syntaxIndicator s) 1)) ∷
     (21 when not (eqb (bitAfter s) 0)) ∷

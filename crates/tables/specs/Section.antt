@@ -5,7 +5,7 @@ use lib.Dec.{eqb}
 use lib.ListN.{getD, length}
 use lib.Seq.{slice}
 use Rattle.rules.specs.Number.{numberOf, bits}
-use Rattle.tables.specs.declared.section.Head.{Head}
+use Rattle.tables.specs.Answers.{Heading}
 
 -- The byte at a place
 abbrev pub byteAt : List ℕ → ℕ → ℕ
@@ -18,10 +18,6 @@ wordOf high low = numberOf (high ∷ low ∷ [])
 -- The two bytes from a place on, as a number
 abbrev pub wordAt : List ℕ → ℕ → ℕ
 wordAt s i = wordOf (byteAt s i) (byteAt s (i + 1))
-
--- The last 12 bits of bytes 1 and 2
-abbrev pub sectionLength : List ℕ → ℕ
-sectionLength s = bits (wordAt s 1) 0 12
 
 -- Byte 0
 abbrev pub tableId : List ℕ → ℕ
@@ -36,13 +32,13 @@ abbrev pub bitAfter : List ℕ → ℕ
 bitAfter s = bits (byteAt s 1) 6 1
 
 -- "Bytes 3 to 7 of a section: id (16 bits), reserved, version (5), current/next, section number, last number"
-abbrev pub headOf : List ℕ → Head
-headOf s = record {
+abbrev pub headingOf : List ℕ → Heading
+headingOf s = record {
   id = wordAt s 3;
   version = bits (byteAt s 5) 1 5;
   current = eqb (bits (byteAt s 5) 0 1) 1;
-  number = byteAt s 6;
-  last = byteAt s 7;
+  sectionNumber = byteAt s 6;
+  lastNumber = byteAt s 7;
 }
 
 -- The bytes of a section from a place up to its CRC_32, which is its last four bytes
@@ -50,5 +46,5 @@ abbrev pub before : ℕ → List ℕ → List ℕ
 before from s = slice from (length s - 4) s
 
 -- The 13 bits of a PID at the end of two bytes
-abbrev pub pidOf : ℕ → ℕ
-pidOf word = bits word 0 13
+abbrev pub pidField : ℕ → ℕ
+pidField word = bits word 0 13

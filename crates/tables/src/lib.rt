@@ -1,7 +1,7 @@
 // PAT and PMT sections (document 01, Tables): headers, entries and descriptors of a lent section, or the refusal's number.
 pub mod pat;
 pub mod pmt;
-pub mod section;
+pub mod shared;
 mod walk;
 
 pub use pat::pat_entry;

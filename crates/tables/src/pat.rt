@@ -1,17 +1,19 @@
 // The program association table.
-use crate::section::Head;
-use crate::section::Judged;
-use crate::section::judge_shared;
-use crate::section::read_head;
-use crate::section::word;
+use crate::shared::Head;
+use crate::shared::Judged;
+use crate::shared::judge_shared;
+use crate::shared::read_head;
+use crate::shared::word;
+use pid::Pid;
 ghost use mathlib.Core.Path.{_≡_};
-ghost use Rattle.rules.specs.Refusal.{judge};
-ghost use Rattle.tables.specs.Pat.{patRefusals, patHeaderOf, patEntryOf};
+ghost use Rattle.tables.specs.Pat.{patRefusals};
+ghost use Rattle.tables.specs.Promises.{ReadsPatHeader, ReadsPatEntry};
+ghost use Rattle.tables.specs.Steps.Judging.{toldJudged, verdictOf};
 
 // An entry: a program and its PID.
 pub struct Program {
     pub number: u16,
-    pub pid: u16,
+    pub pid: Pid,
 }
 
 pub enum PatHeader {
@@ -26,7 +28,7 @@ pub enum PatEntry {
 
 // Judges a section asked for as a PAT.
 fn judge_pat(s: &[u8]) -> Judged
-    ensures { λ r. ⌜ r ≡ judge Judged.Refused (patRefusals (now (s .entry))) Judged.Fine ⌝ }
+    ensures { λ r. ⌜ toldJudged r ≡ verdictOf (patRefusals (now (s .entry))) ⌝ }
 {
     let shared = judge_shared(s, 0, 9);
     match shared {
@@ -45,7 +47,7 @@ fn judge_pat(s: &[u8]) -> Judged
 
 // The header of a section asked for as a PAT.
 pub fn pat_header(section: &[u8]) -> PatHeader
-    ensures { λ r. ⌜ r ≡ patHeaderOf (now (section .entry)) ⌝ }
+    ensures { λ r. ⌜ ReadsPatHeader (now (section .entry)) r ⌝ }
 {
     let verdict = judge_pat(section);
     match verdict {
@@ -59,7 +61,7 @@ pub fn pat_header(section: &[u8]) -> PatHeader
 
 // The entry with an index of a section asked for as a PAT.
 pub fn pat_entry(section: &[u8], index: u16) -> PatEntry
-    ensures { λ r. ⌜ r ≡ patEntryOf (now (section .entry)) index ⌝ }
+    ensures { λ r. ⌜ ReadsPatEntry (now (section .entry)) index r ⌝ }
 {
     let verdict = judge_pat(section);
     match verdict {
@@ -71,7 +73,7 @@ pub fn pat_entry(section: &[u8], index: u16) -> PatEntry
             }
             let at = 8 + 4 * i;
             let number = word(section[at], section[at + 1]);
-            let pid = word(section[at + 2], section[at + 3]) % 8192;
+            let pid = Pid(word(section[at + 2], section[at + 3]) % 8192);
             PatEntry::Entry(Program { number, pid })
         }
     }

@@ -1,23 +1,34 @@
 // The program map table.
-use crate::section::Head;
-use crate::section::Judged;
-use crate::section::judge_shared;
-use crate::section::read_head;
-use crate::section::word;
-use crate::walk::Ask;
-use crate::walk::Found;
-use crate::walk::Walked;
+use crate::shared::Head;
+use crate::shared::Judged;
+use crate::shared::judge_shared;
+use crate::shared::read_head;
+use crate::shared::word;
 use crate::walk::descriptors;
+use pid::Pid;
 ghost use mathlib.Core.Path.{_≡_};
+ghost use mathlib.Core.List.{_++_};
 ghost use Prim.Native.Nat.{_+_, _≤_};
 ghost use lib.ListN.{length};
 ghost use Rattle.rules.specs.Lent.{lent};
-ghost use Rattle.tables.specs.Pmt.{pmtWalkedOf, pmtHeaderOf, pmtEntryOf, descriptorIn, startOf, sizeOf, partOf};
+ghost use Rattle.tables.specs.Answers.{toldPmtDescriptor};
+ghost use Rattle.tables.specs.Refusals.{shared};
+ghost use Rattle.tables.specs.Pmt.{pmtOwn, descriptorIn, startOf, sizeOf, partOf};
+ghost use Rattle.tables.specs.Promises.{
+  ReadsPmtHeader,
+  ReadsPmtEntry,
+  FindsProgramDescriptor,
+  FindsEntryDescriptor,
+  GivesProgramDescriptorBytes,
+  GivesEntryDescriptorBytes,
+};
+ghost use Rattle.tables.specs.Steps.Judging.{toldJudged, verdictOf};
+ghost use Rattle.tables.specs.Steps.Walk.{toldWalked, pmtWalkedOf};
 
 // An entry: an elementary stream's type, its PID and how many descriptors it has.
 pub struct Stream {
     pub stream_type: u8,
-    pub pid: u16,
+    pub pid: Pid,
     pub descriptors: usize,
 }
 
@@ -31,7 +42,7 @@ pub struct Place {
 pub enum PmtHeader {
     Header {
         head: Head,
-        pcr_pid: u16,
+        pcr_pid: Pid,
         descriptors: usize,
         entries: usize,
     },
@@ -48,60 +59,88 @@ pub enum PmtDescriptor {
     Refused(u8),
 }
 
-// Judges a section asked for as a PMT, and finds what is asked for.
-fn walk_pmt(s: &[u8], ask: Ask) -> Walked
-    ensures { λ r. ⌜ r ≡ pmtWalkedOf (now (s .entry)) ask ⌝ }
+// What walking over a section found: how many entries there are; of the descriptor loop asked for, how many descriptors it has and the place of the item asked for.
+enum Walked {
+    Whole {
+        entries: usize,
+        size: usize,
+        place: usize,
+    },
+    Refused(u8),
+}
+
+// Judges a section asked for as a PMT by all but its loops.
+fn judge_pmt(s: &[u8]) -> Judged
+    ensures { λ r. ⌜ toldJudged r ≡ verdictOf (shared 2 13 (now (s .entry)) ++ pmtOwn (now (s .entry))) ⌝ }
 {
     let shared = judge_shared(s, 2, 13);
     match shared {
-        Judged::Refused(n) => Walked::Refused(n),
+        Judged::Refused(n) => Judged::Refused(n),
         Judged::Fine => {
             if s[6] != 0 {
-                return Walked::Refused(24);
+                return Judged::Refused(24);
             }
             if s[7] != 0 {
-                return Walked::Refused(24);
+                return Judged::Refused(24);
             }
             let w = word(s[10], s[11]);
             if w / 1024 % 4 != 0 {
-                return Walked::Refused(26);
+                return Judged::Refused(26);
             }
-            let n = (w % 4096) as usize;
-            if s.len() - 16 < n {
-                return Walked::Refused(26);
+            if s.len() - 16 < (w % 4096) as usize {
+                return Judged::Refused(26);
             }
+            Judged::Fine
+        }
+    }
+}
+
+// Judges a section asked for as a PMT, and finds an item of the loop `asked` for: item 0 is the entry, item i + 1 its descriptor i.
+fn walk_pmt(s: &[u8], asked: usize, item: usize) -> Walked
+    ensures { λ r. ⌜ toldWalked r ≡ pmtWalkedOf asked item (now (s .entry)) ⌝ }
+{
+    let verdict = judge_pmt(s);
+    match verdict {
+        Judged::Refused(n) => Walked::Refused(n),
+        Judged::Fine => {
+            let n = (word(s[10], s[11]) % 4096) as usize;
             let end = s.len() - 4;
-            let found = Found {
-                loops: 0,
-                start: 0,
-                size: 0,
-                place: 0,
-            };
-            descriptors(&s[..end], 12, 12 + n, 0, 0, ask, found)
+            let body = &s[..end];
+            let mut size = 0;
+            let mut place = 0;
+            let loops = descriptors(&body, 12, 12 + n, 0, asked, item, &mut size, &mut place);
+            if loops == 0 {
+                return Walked::Refused(26);
+            }
+            let entries = loops - 1;
+            Walked::Whole {
+                entries,
+                size,
+                place,
+            }
         }
     }
 }
 
 // The header of a section asked for as a PMT.
 pub fn pmt_header(section: &[u8]) -> PmtHeader
-    ensures { λ r. ⌜ r ≡ pmtHeaderOf (now (section .entry)) ⌝ }
+    ensures { λ r. ⌜ ReadsPmtHeader (now (section .entry)) r ⌝ }
 {
-    let walked = walk_pmt(
-        section,
-        Ask {
-            number: 0,
-            index: 0,
-        },
-    );
+    let walked = walk_pmt(section, 0, 0);
     match walked {
         Walked::Refused(n) => PmtHeader::Refused(n),
-        Walked::Whole(found) => {
-            let pid = word(section[8], section[9]) % 8192;
+        Walked::Whole {
+            entries,
+            size,
+            place: _,
+        } => {
+            let pcr_pid = Pid(word(section[8], section[9]) % 8192);
+            let descriptors = size;
             PmtHeader::Header {
                 head: read_head(section),
-                pcr_pid: pid,
-                descriptors: found.size,
-                entries: found.loops - 1,
+                pcr_pid,
+                descriptors,
+                entries,
             }
         }
     }
@@ -109,22 +148,25 @@ pub fn pmt_header(section: &[u8]) -> PmtHeader
 
 // The entry with an index of a section asked for as a PMT.
 pub fn pmt_entry(section: &[u8], index: u16) -> PmtEntry
-    ensures { λ r. ⌜ r ≡ pmtEntryOf (now (section .entry)) index ⌝ }
+    ensures { λ r. ⌜ ReadsPmtEntry (now (section .entry)) index r ⌝ }
 {
-    let number = index as usize + 1;
-    let walked = walk_pmt(section, Ask { number, index: 0 });
+    let i = index as usize;
+    let walked = walk_pmt(section, i + 1, 0);
     match walked {
         Walked::Refused(n) => PmtEntry::Refused(n),
-        Walked::Whole(found) => {
-            if found.loops <= number {
+        Walked::Whole {
+            entries,
+            size,
+            place,
+        } => {
+            if entries <= i {
                 return PmtEntry::Refused(27);
             }
-            let at = found.start;
-            let pid = word(section[at + 1], section[at + 2]) % 8192;
+            let pid = Pid(word(section[place + 1], section[place + 2]) % 8192);
             PmtEntry::Entry(Stream {
-                stream_type: section[at],
+                stream_type: section[place],
                 pid,
-                descriptors: found.size,
+                descriptors: size,
             })
         }
     }
@@ -132,24 +174,27 @@ pub fn pmt_entry(section: &[u8], index: u16) -> PmtEntry
 
 // The descriptor with an index of the descriptor loop with a number.
 fn descriptor_in(section: &[u8], number: usize, index: u16) -> PmtDescriptor
-    ensures { λ r. ⌜ r ≡ descriptorIn (now (section .entry)) number index ⌝ }
+    ensures { λ r. ⌜ toldPmtDescriptor r ≡ descriptorIn (now (section .entry)) number index ⌝ }
 {
     let i = index as usize;
-    let walked = walk_pmt(section, Ask { number, index: i });
+    let walked = walk_pmt(section, number, i + 1);
     match walked {
         Walked::Refused(n) => PmtDescriptor::Refused(n),
-        Walked::Whole(found) => {
-            if found.loops <= number {
+        Walked::Whole {
+            entries,
+            size,
+            place,
+        } => {
+            if entries < number {
                 return PmtDescriptor::Refused(27);
             }
-            if found.size <= i {
+            if size <= i {
                 return PmtDescriptor::Refused(27);
             }
-            let at = found.place;
             PmtDescriptor::Descriptor(Place {
-                tag: section[at],
-                start: at + 2,
-                size: section[at + 1] as usize,
+                tag: section[place],
+                start: place + 2,
+                size: section[place + 1] as usize,
             })
         }
     }
@@ -157,22 +202,22 @@ fn descriptor_in(section: &[u8], number: usize, index: u16) -> PmtDescriptor
 
 // The program's descriptor with an index.
 pub fn program_descriptor(section: &[u8], index: u16) -> PmtDescriptor
-    ensures { λ r. ⌜ r ≡ descriptorIn (now (section .entry)) 0 index ⌝ }
+    ensures { λ r. ⌜ FindsProgramDescriptor (now (section .entry)) index r ⌝ }
 {
     descriptor_in(section, 0, index)
 }
 
 // The descriptor with an index of the entry with an index.
 pub fn entry_descriptor(section: &[u8], entry: u16, index: u16) -> PmtDescriptor
-    ensures { λ r. ⌜ r ≡ descriptorIn (now (section .entry)) (entry + 1) index ⌝ }
+    ensures { λ r. ⌜ FindsEntryDescriptor (now (section .entry)) entry index r ⌝ }
 {
     descriptor_in(section, entry as usize + 1, index)
 }
 
 // The part of the section that holds a descriptor's bytes; for a refusal the empty part at its end.
 fn part(section: &[u8], d: PmtDescriptor) -> &[u8]
-    requires { ⌜ startOf (now section) d + sizeOf d ≤ length (now section) ⌝ }
-    ensures { λ r. ⌜ lent r ≡ partOf (lent (section .entry)) d ⌝ }
+    requires { ⌜ startOf (now section) (toldPmtDescriptor d) + sizeOf (toldPmtDescriptor d) ≤ length (now section) ⌝ }
+    ensures { λ r. ⌜ lent r ≡ partOf (lent (section .entry)) (toldPmtDescriptor d) ⌝ }
 {
     match d {
         PmtDescriptor::Descriptor(p) => {
@@ -189,7 +234,7 @@ fn part(section: &[u8], d: PmtDescriptor) -> &[u8]
 
 // The part of the section that holds the bytes of the program's descriptor with an index; for a refusal the empty part at its end.
 pub fn program_descriptor_bytes(section: &[u8], index: u16) -> &[u8]
-    ensures { λ r. ⌜ lent r ≡ partOf (lent (section .entry)) (descriptorIn (now (section .entry)) 0 index) ⌝ }
+    ensures { λ r. ⌜ GivesProgramDescriptorBytes (lent (section .entry)) index (lent r) ⌝ }
 {
     let d = program_descriptor(section, index);
     part(section, d)
@@ -197,7 +242,7 @@ pub fn program_descriptor_bytes(section: &[u8], index: u16) -> &[u8]
 
 // The part of the section that holds the bytes of the descriptor with an index of the entry with an index; for a refusal the empty part at its end.
 pub fn entry_descriptor_bytes(section: &[u8], entry: u16, index: u16) -> &[u8]
-    ensures { λ r. ⌜ lent r ≡ partOf (lent (section .entry)) (descriptorIn (now (section .entry)) (entry + 1) index) ⌝ }
+    ensures { λ r. ⌜ GivesEntryDescriptorBytes (lent (section .entry)) entry index (lent r) ⌝ }
 {
     let d = entry_descriptor(section, entry, index);
     part(section, d)

@@ -1,3 +1,3 @@
 pub mod Digits
-pub mod Outcomes
 pub mod Laws
+pub mod Claims

@@ -3,7 +3,7 @@ use mathlib.Core.Bool.{cond}
 use mathlib.Core.List.{List, [], _∷_, _++_}
 use Prim.Native.Nat.{ℕ, zero, suc, _+_, _/_, _%_}
 use lib.Dec.{ltb}
-use lib.ListN.{length, set}
+use lib.ListN.{length, take, set}
 
 -- lent bytes, of which the first are text: where the text ends
 pub record Text : Type 0 where
@@ -13,6 +13,10 @@ pub record Text : Type 0 where
 -- the text in these bytes up to this end
 abbrev pub upTo : List ℕ → ℕ → Text
 upTo bytes end = record { bytes = bytes; end = end }
+
+-- the text itself
+abbrev pub shown : Text → List ℕ
+shown t = take (t .end) (t .bytes)
 
 -- one byte more; where it has no place, all is left as it is
 abbrev pub withByte : Text → ℕ → Text

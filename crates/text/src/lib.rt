@@ -1,12 +1,11 @@
 // Text that a program prints, written piece by piece behind what is already there.
-ghost use mathlib.Core.Path.{_≡_};
-ghost use Rattle.rules.specs.Lent.{lent, part};
-ghost use Rattle.text.specs.Text.{upTo, withByte, withBytes, decimalOf};
+ghost use Rattle.rules.specs.Lent.{lent};
+ghost use Rattle.text.specs.Text.{upTo};
+ghost use Rattle.text.specs.Promises.{WritesByte, WritesWord, WritesDecimal, LendsFirst};
 
 // One byte more, and where the text ends then.
 pub fn byte(text: &mut [u8], at: usize, b: u8) -> usize
-    ensures { λ r. ⌜ upTo (now (text .exit)) r
-        ≡ withByte (upTo (now (text .entry)) at) b ⌝ }
+    ensures { λ r. ⌜ WritesByte (upTo (now (text .entry)) at) b (upTo (now (text .exit)) r) ⌝ }
 {
     if at < text.len() {
         text[at] = b;
@@ -17,8 +16,7 @@ pub fn byte(text: &mut [u8], at: usize, b: u8) -> usize
 
 // A word.
 pub fn word(text: &mut [u8], at: usize, letters: &[u8]) -> usize
-    ensures { λ r. ⌜ upTo (now (text .exit)) r
-        ≡ withBytes (upTo (now (text .entry)) at) (now (letters .entry)) ⌝ }
+    ensures { λ r. ⌜ WritesWord (upTo (now (text .entry)) at) (now (letters .entry)) (upTo (now (text .exit)) r) ⌝ }
 {
     let mut end = at;
     let mut i: usize = 0;
@@ -31,8 +29,7 @@ pub fn word(text: &mut [u8], at: usize, letters: &[u8]) -> usize
 
 // A number in decimal digits.
 pub fn decimal(text: &mut [u8], at: usize, n: u64) -> usize
-    ensures { λ r. ⌜ upTo (now (text .exit)) r
-        ≡ withBytes (upTo (now (text .entry)) at) (decimalOf n) ⌝ }
+    ensures { λ r. ⌜ WritesDecimal (upTo (now (text .entry)) at) n (upTo (now (text .exit)) r) ⌝ }
 {
     let mut digits = [0u8; 20];
     let size = io::decimal(n, &mut digits);
@@ -41,7 +38,7 @@ pub fn decimal(text: &mut [u8], at: usize, n: u64) -> usize
 
 // The text itself: as many of the bytes as there are at most.
 pub fn first(text: &[u8], size: usize) -> &[u8]
-    ensures { λ r. ⌜ lent r ≡ part (lent (text .entry)) 0 size ⌝ }
+    ensures { λ r. ⌜ LendsFirst (lent (text .entry)) size (lent r) ⌝ }
 {
     if size < text.len() {
         return &text[..size];

@@ -1,7 +1,7 @@
 -- Each return is the first row of the table that applies; in a sound state an open filter stands on a used area.
 -- Assumes nothing.
-use mathlib.Core.Path.{_≡_, refl, sym, _∙_, ap}
-use mathlib.Core.Bool.{Bool, true, false, not, _&&_}
+use mathlib.Core.Path.{_≡_, sym, _∙_, ap}
+use mathlib.Core.Bool.{true, false, not, _&&_}
 use Prim.Native.Nat.{_<_, _≤_}
 use native.Mathlib.Omega.{arith}
 use borrow.Author.Tests.{not-false}
@@ -10,19 +10,13 @@ use lib.ListN.{length, getD}
 use Rattle.rules.proofs.Refusal.{tests, yes, no}
 use Rattle.rules.proofs.Test.{both-true}
 use Rattle.rules.proofs.Walk.{mapped-length, find-passes}
-use Rattle.driver.specs.State.{placeOf, isOpen, isUsed, freeArea, freeFilter}
+use Rattle.driver.specs.State.{placeOf, isOpen, freeArea, freeFilter}
 use Rattle.driver.specs.Sound.{sound}
 use Rattle.driver.specs.Close.{closeOf, areaAt}
 use Rattle.driver.proofs.Clauses.{sound-tells, open-stands, used-inside, used-some}
 use borrow.Author.Needs.{needs}
 use Rattle.driver.proofs.close.Statement.{statement}
 use Rattle.driver.proofs.close.Tie as tie
-use Rattle.driver.proofs.close.Reads as reads
-use Rattle.driver.proofs.close.Lts as lts
-use Rattle.driver.proofs.filters.unclosed.Reads as unclosed-reads
-use Rattle.driver.proofs.filters.without_filter.Reads as without-filter-reads
-use Rattle.driver.proofs.find.place_of.Reads as place-of-reads
-use Rattle.driver.proofs.sound.is_sound.Reads as is-sound-reads
 
 is-sound-requires : tie.Need-is-sound-requires
 is-sound-requires c κs = search needs

@@ -1,27 +1,20 @@
 -- Each return is the first row of the table that applies; a sound state's user counts leave room for one more.
 -- Assumes nothing.
-use mathlib.Core.Path.{_≡_, refl, sym, _∙_, ap}
-use mathlib.Core.Bool.{Bool, true, false, not}
-use Prim.Native.Nat.{_<_, _≤_, _+_}
+use mathlib.Core.Path.{_≡_, sym, _∙_, ap}
+use mathlib.Core.Bool.{true, false, not}
+use Prim.Native.Nat.{_<_, _≤_}
 use native.Mathlib.Omega.{arith}
-use borrow.Author.Tests.{not-true, not-false}
-use lib.ListN.{length, getD}
+use borrow.Author.Tests.{not-false}
+use lib.ListN.{length}
 use Rattle.rules.proofs.Refusal.{tests, yes, no}
 use Rattle.rules.proofs.Walk.{mapped-length}
-use Rattle.driver.specs.State.{freePlaceOf, freeArea}
+use Rattle.driver.specs.State.{freePlaceOf}
 use Rattle.driver.specs.Sound.{sound}
 use Rattle.driver.specs.Open.{openOf, areaFor}
 use Rattle.driver.proofs.Clauses.{sound-tells, users-few}
 use borrow.Author.Needs.{needs}
 use Rattle.driver.proofs.open.Statement.{statement}
 use Rattle.driver.proofs.open.Tie as tie
-use Rattle.driver.proofs.open.Reads as reads
-use Rattle.driver.proofs.open.Lts as lts
-use Rattle.driver.proofs.filters.area_for.Reads as area-for-reads
-use Rattle.driver.proofs.filters.unopened.Reads as unopened-reads
-use Rattle.driver.proofs.filters.with_filter.Reads as with-filter-reads
-use Rattle.driver.proofs.find.free_place.Reads as free-place-reads
-use Rattle.driver.proofs.sound.is_sound.Reads as is-sound-reads
 
 is-sound-requires : tie.Need-is-sound-requires
 is-sound-requires c κs = search needs

@@ -1,29 +1,20 @@
 -- Each return is the first row of the table that applies; a packet that is read goes on to its area.
 -- Assumes nothing.
-use mathlib.Core.Path.{_≡_, refl, sym, _∙_, ap}
-use mathlib.Core.Bool.{Bool, true, false}
+use mathlib.Core.Path.{_≡_, sym, _∙_, ap}
 use Prim.Native.Nat.{ℕ, _≤_, _<_}
 use native.Mathlib.Omega.{arith}
 use borrow.Author.Tests.{not-true, not-false}
 use lib.ListN.{length}
 use denote.Ref.{now}
 use Rattle.rules.proofs.Walk.{mapped-length}
-use Rattle.packet.specs.Packet.{Contents, told}
+use Rattle.packet.specs.Packet.{Contents, toldReading}
 use Rattle.driver.specs.State.{areaOf}
-use Rattle.driver.specs.Sound.{sound}
-use Rattle.driver.specs.Packet.{isWrongSize, pidOf, afterReading, afterTests}
+use Rattle.driver.specs.Packet.{pidOf, afterTests}
 use Rattle.driver.proofs.Brought.{read-same, read-silent}
 use Rattle.driver.proofs.Order.{packet-unsound, packet-sizes, packet-refused, packet-read, reading-unwanted, reading-wanted, sizes-right}
 use borrow.Author.Needs.{needs}
 use Rattle.driver.proofs.packet.Statement.{statement}
 use Rattle.driver.proofs.packet.Tie as tie
-use Rattle.driver.proofs.packet.Reads as reads
-use Rattle.driver.proofs.packet.Lts as lts
-use Rattle.driver.proofs.find.area_of.Reads as area-of-reads
-use Rattle.driver.proofs.sound.is_sound.Reads as is-sound-reads
-use Rattle.driver.proofs.wanted.unhandled.Reads as unhandled-reads
-use Rattle.driver.proofs.wanted.wanted.Reads as wanted-reads
-use Rattle.packet.proofs.read.Reads as read-reads
 
 is-sound-requires : tie.Need-is-sound-requires
 is-sound-requires c κs = search needs
@@ -67,7 +58,7 @@ returns-3 c =
     let s = a .state in
     let b = now (a .bytes) in
     let fine = sym (c .before .before .before .before .before .before .before .before .before .before .is-sound .ensures) ∙ not-false _ (c .before .before .before .before .before .before .before .before .before .if1 .left) in
-    let e = sym (c .before .before .before .before .before .before .before .read .ensures) ∙ ap told (c .before .before .before .before .before .reading2 .given .1) in
+    let e = sym (c .before .before .before .before .before .before .before .read .ensures) ∙ ap toldReading (c .before .before .before .before .before .reading2 .given .1) in
     let p = c .before .before .before .before .before .reading2 .given .0 .0 in
     let pid : p .pid .0 ≡ pidOf b = ap (λ (q : Contents). q .pid) (sym (read-same b p e)) in
     let long : length (s .areas) ≡ 8 = search (needs, mapped-length, c .before .before .before .before .before .before .before .before .before .before .before .before .before .before .good) in
@@ -82,7 +73,7 @@ wanted-requires c κs =
     let a = c .before .before .before .before .before .before .before .before .before .before .before .before .before .before .before .before .args in
     let fine = sym (c .before .before .before .before .before .before .before .before .before .before .before .before .is-sound .ensures) ∙ not-false _ (c .before .before .before .before .before .before .before .before .before .before .before .if1 .left) in
     let sizes = sizes-right (now (a .store)) (now (a .out)) (c .before .before .before .before .before .before .before .before .before .before .if2 .left) in
-    let e = sym (c .before .before .before .before .before .before .before .before .before .read .ensures) ∙ ap told (c .before .before .before .before .before .before .before .reading2 .given .1) in
+    let e = sym (c .before .before .before .before .before .before .before .before .before .read .ensures) ∙ ap toldReading (c .before .before .before .before .before .before .before .reading2 .given .1) in
     (record { fine = fine; whole = sizes .0; room = sizes .1 }, (c .before .before .if3 .left, e))
 
 returns-4 : tie.Need-returns-4
@@ -91,7 +82,7 @@ returns-4 c =
     rw (c .unhandled3 .ensures)
     (sym
     (packet-refused (a .state) (now (a .bytes)) (now (a .store)) (now (a .out)) _ (sym (c .before .before .before .before .before .before .before .is-sound .ensures) ∙ not-false _ (c .before .before .before .before .before .before .if1 .left)) (c .before .before .before .before .before .if2 .left)
-    (sym (c .before .before .before .before .read .ensures) ∙ ap told (c .before .before .reading .given .1))))
+    (sym (c .before .before .before .before .read .ensures) ∙ ap toldReading (c .before .before .reading .given .1))))
 
 same-length : tie.Need-same-length
 same-length c = search needs
@@ -105,7 +96,7 @@ returns-5 c =
     let s = a .state in
     let b = now (a .bytes) in
     let fine = sym (c .before .before .before .before .before .before .before .before .before .before .before .before .before .before .before .before .before .is-sound .ensures) ∙ not-false _ (c .before .before .before .before .before .before .before .before .before .before .before .before .before .before .before .before .if1 .left) in
-    let e = sym (c .before .before .before .before .before .before .before .before .before .before .before .before .before .before .read .ensures) ∙ ap told (c .before .before .before .before .before .before .before .before .before .before .before .before .reading2 .given .1) in
+    let e = sym (c .before .before .before .before .before .before .before .before .before .before .before .before .before .before .read .ensures) ∙ ap toldReading (c .before .before .before .before .before .before .before .before .before .before .before .before .reading2 .given .1) in
     let p = c .before .before .before .before .before .before .before .before .before .before .before .before .reading2 .given .0 .0 in
     let pid : p .pid .0 ≡ pidOf b = ap (λ (q : Contents). q .pid) (sym (read-same b p e)) in
     let long : length (s .areas) ≡ 8 = search (needs, mapped-length, c .before .before .before .before .before .before .before .before .before .before .before .before .before .before .before .before .before .before .before .before .before .good) in

@@ -2,16 +2,11 @@
 -- Assumes nothing.
 use native.Mathlib.Omega.{arith}
 use borrow.Author.Needs.{needs}
-use Prim.Native.Nat.{_≤_, _-_}
+use Prim.Native.Nat.{_-_}
 use mathlib.Core.Path.{_≡_, refl}
 use lib.ListN.{length}
 use Rattle.exercise.proofs.answer_all.Statement.{statement}
 use Rattle.exercise.proofs.answer_all.Tie as tie
-use Rattle.exercise.proofs.answer_all.Reads as reads
-use Rattle.exercise.proofs.answer_all.Lts as lts
-use Rattle.driver.proofs.fresh.Reads as fresh-reads
-use Rattle.exercise.proofs.answer_some.Reads as answer-some-reads
-use Rattle.exercise.proofs.line.Line.new.Reads as new-reads
 
 abbrev Inv-loop : tie.InvT-loop
 Inv-loop bytes₀ store₀ old-store₀ out₀ old-out₀ text₀ turns₀ turn₀ bytes store old-store out old-out text turns turn = (length bytes ≡ length bytes₀) × (length store ≡ length store₀) × (length old-store ≡ length old-store₀) × (length out ≡ length out₀) × (length old-out ≡ length old-out₀) × (length text ≡ length text₀)

@@ -5,15 +5,11 @@
 -- Assumes nothing.
 use native.Mathlib.Omega.{arith}
 use borrow.Author.Needs.{needs}
-use Prim.Native.Nat.{_≤_, _-_}
+use Prim.Native.Nat.{_-_}
 use mathlib.Core.Path.{_≡_, refl}
 use lib.ListN.{length}
 use Rattle.exercise.proofs.answer_piece.Statement.{statement}
 use Rattle.exercise.proofs.answer_piece.Tie as tie
-use Rattle.exercise.proofs.answer_piece.Reads as reads
-use Rattle.exercise.proofs.answer_piece.Lts as lts
-use Rattle.exercise.proofs.answer_line.Reads as answer-line-reads
-use Rattle.exercise.proofs.is_left.Reads as is-left-reads
 
 abbrev Inv-loop : tie.InvT-loop
 Inv-loop piece bytes₀ store₀ old-store₀ out₀ old-out₀ text₀ now₀ left₀ bytes store old-store out old-out text now left = (length bytes ≡ length bytes₀) × (length store ≡ length store₀) × (length old-store ≡ length old-store₀) × (length out ≡ length out₀) × (length old-out ≡ length old-out₀) × (length text ≡ length text₀)

@@ -2,14 +2,11 @@
 -- Assumes nothing.
 use native.Mathlib.Omega.{arith}
 use borrow.Author.Needs.{needs}
-use Prim.Native.Nat.{_≤_, _-_}
+use Prim.Native.Nat.{_-_}
 use mathlib.Core.Path.{_≡_, refl}
 use lib.ListN.{length}
 use Rattle.exercise.proofs.take_line.Statement.{statement}
 use Rattle.exercise.proofs.take_line.Tie as tie
-use Rattle.exercise.proofs.take_line.Reads as reads
-use Rattle.exercise.proofs.take_line.Lts as lts
-use Rattle.exercise.proofs.line.Line.with.Reads as with-reads
 
 abbrev Inv-loop : tie.InvT-loop
 Inv-loop piece from bytes₀ next₀ taken₀ bytes next taken = length bytes ≡ length bytes₀

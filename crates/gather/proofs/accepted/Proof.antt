@@ -1,12 +1,12 @@
 -- `accepted` answers the rule: nothing for a packet without payload, a repeat dropped, and else what the payload gives.
 -- Assumes nothing.
 use denote.Ref.{now}
-use Rattle.gather.proofs.Accepting.{unchanged-handed, rule-empty, rule-repeat, taken-whole, kept-le, lost-le, yield-two}
-use Rattle.gather.specs.Memory.{bytesAt, stateOf, wrote, handed}
+use Rattle.gather.proofs.Accepting.{unchanged-on-memory, rule-empty, rule-repeat, changed-whole, kept-le, lost-le, yield-two}
+use Rattle.gather.specs.Memory.{stretch, stateOf, toldGathered, leaves, onMemory}
 use Rattle.gather.specs.Steps.{Carried}
 use Rattle.gather.specs.Rule.{Packet, Outcome}
 use mathlib.Core.Bool.{false, true}
-use Rattle.gather.specs.declared.Gathering.the-variants.{Done}
+use Rattle.rules.specs.Answer.{given}
 use Rattle.gather.specs.declared.Gathered.{Gathered}
 use native.Mathlib.Omega.{arith}
 use mathlib.Core.Path.{sym, _∙_, ap}
@@ -23,9 +23,9 @@ returns c = let a = c .before .before .before .before .before .args in
     let o = now (a .out) in
     let state = stateOf (a .marks) s (a .base) in
     let packet : Packet = record { counter = a .counter; start = a .start; payload = now (a .payload) } in
-    ap (λ (g : Gathered). wrote (Done g) s o) (c .unchanged .ensures)
-    ∙ unchanged-handed (a .marks) s (a .base) o (c .before .before .before .before .before .pre .1) (c .before .before .before .before .before .pre .0 .area) false
-    ∙ ap (λ (r : Outcome). handed r s (a .base) o) (sym (rule-empty state packet (c .before .if1 .taken)))
+    ap (λ (g : Gathered). leaves (given (toldGathered g)) s o) (c .unchanged .ensures)
+    ∙ unchanged-on-memory (a .marks) s (a .base) o (c .before .before .before .before .before .pre .1) (c .before .before .before .before .before .pre .0 .area) false
+    ∙ ap (λ (r : Outcome). onMemory r s (a .base) o) (sym (rule-empty state packet (c .before .if1 .taken)))
 
 repeats-requires : tie.Need-repeats-requires
 repeats-requires c κs = search needs
@@ -39,9 +39,9 @@ returns-2 c = let a = c .before .before .before .before .before .before .before 
     let o = now (a .out) in
     let state = stateOf (a .marks) s (a .base) in
     let packet : Packet = record { counter = a .counter; start = a .start; payload = now (a .payload) } in
-    ap (λ (g : Gathered). wrote (Done g) s o) (c .unchanged2 .ensures)
-    ∙ unchanged-handed (a .marks) s (a .base) o (c .before .before .before .before .before .before .before .pre .1) (c .before .before .before .before .before .before .before .pre .0 .area) true
-    ∙ ap (λ (r : Outcome). handed r s (a .base) o)
+    ap (λ (g : Gathered). leaves (given (toldGathered g)) s o) (c .unchanged2 .ensures)
+    ∙ unchanged-on-memory (a .marks) s (a .base) o (c .before .before .before .before .before .before .before .pre .1) (c .before .before .before .before .before .before .before .pre .0 .area) true
+    ∙ ap (λ (r : Outcome). onMemory r s (a .base) o)
     (sym (rule-repeat state packet (c .before .before .before .if1 .left) (sym (c .before .before .repeats .ensures) ∙ c .before .if2 .taken)))
 
 jumps-requires : tie.Need-jumps-requires
@@ -61,12 +61,12 @@ gathered-requires c κs = let room = c .before .before .before .before .before .
 
 add-given-up : tie.Need-add-given-up
 add-given-up c = let a = c .before .before .before .before .before .before .before .before .before .before .before .before .before .before .before .before .before .args in
-    let two = yield-two (bytesAt (c .before .before .before .before .before .before .before .before .kept .result) (now (a .store)) (a .base)) (a .start) (now (a .payload)) in
+    let two = yield-two (stretch (c .before .before .before .before .before .before .before .before .kept .result) (now (a .store)) (a .base)) (a .start) (now (a .payload)) in
     let one = lost-le (c .before .before .before .before .before .before .before .before .before .before .jumps .result) (a .marks .held) in
     omega (arith, ap (λ (r : Carried). r .sizes .«given_up») (c .before .before .before .before .before .gathered .ensures), c .before .before .before .before .before .before .before .before .before .lost .ensures, two, one)
 
-taken-requires : tie.Need-taken-requires
-taken-requires c κs = search needs
+changed-requires : tie.Need-changed-requires
+changed-requires c κs = search needs
 
 same-length : tie.Need-same-length
 same-length c = search needs
@@ -77,8 +77,8 @@ same-length-2 c = search needs
 returns-3 : tie.Need-returns-3
 returns-3 c = let a = c .before .before .before .before .before .before .before .before .before .before .before .before .before .before .before .before .before .before .args in
     let last = c .before .before .before .before .before .before .gathered .last in
-    ap (λ (g : Gathered). wrote (Done g) (last .1 .1 .1 .0) (last .1 .1 .1 .1 .1 .0)) (c .taken .ensures)
-    ∙ taken-whole (a .marks) (a .counter) (a .start) (now (a .payload)) (now (a .store)) (a .base) (now (a .out)) (c .before .before .before .before .before .before .before .before .before .before .before .before .before .before .before .before .before .before .pre .0)
+    ap (λ (g : Gathered). leaves (given (toldGathered g)) (last .1 .1 .1 .0) (last .1 .1 .1 .1 .1 .0)) (c .changed .ensures)
+    ∙ changed-whole (a .marks) (a .counter) (a .start) (now (a .payload)) (now (a .store)) (a .base) (now (a .out)) (c .before .before .before .before .before .before .before .before .before .before .before .before .before .before .before .before .before .before .pre .0)
     (c .before .before .before .before .before .before .before .before .before .before .before .before .before .before .if1 .left) (sym (c .before .before .before .before .before .before .before .before .before .before .before .before .before .repeats .ensures) ∙ c .before .before .before .before .before .before .before .before .before .before .before .before .if2 .left)
     (c .before .before .before .before .before .before .before .before .before .before .before .jumps .result) (c .before .before .before .before .before .before .before .before .before .kept .result) (c .before .before .before .before .before .before .before .before .before .before .lost .result)
     (c .before .before .before .before .before .before .before .before .before .before .before .jumps .ensures) (c .before .before .before .before .before .before .before .before .before .kept .ensures) (c .before .before .before .before .before .before .before .before .before .before .lost .ensures)
@@ -98,7 +98,7 @@ accepted-spec =
     kept-requires
     gathered-requires
     add-given-up
-    taken-requires
+    changed-requires
     same-length
     same-length-2
     returns-3)

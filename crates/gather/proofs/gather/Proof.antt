@@ -1,48 +1,62 @@
 -- `gather` is its table of refusals, and past it the rule on memory.
 -- Assumes nothing.
-use borrow.Author.Tests.{not-false}
-use Rattle.gather.proofs.Accepting.{sound-says}
-use Rattle.gather.specs.Memory.{soundMarks, gatherOf}
-use Rattle.rules.proofs.Refusal.{tests, yes, no}
-use mathlib.Core.Bool.{true, false, not}
-use native.Mathlib.Omega.{arith}
-use mathlib.Core.Path.{_≡_, sym, _∙_, ap}
 use borrow.Author.Needs.{needs}
+use borrow.Author.Tests.{not-false}
+use native.Mathlib.Omega.{arith}
+use mathlib.Core.Bool.{true, false, not}
+use mathlib.Core.Path.{_≡_, sym, _∙_, ap}
+use Rattle.rules.proofs.Refusal.{tests, yes, no}
+use Rattle.gather.specs.Memory.{soundMarks, gatherOf}
+use Rattle.gather.proofs.Accepting.{sound-says}
 use Rattle.gather.proofs.gather.Statement.{statement}
 use Rattle.gather.proofs.gather.Tie as tie
-
-returns : tie.Need-returns
-unfolding gatherOf
-returns c = search (tests, arith) depth 20 fits 4000
-
-sub-if2 : tie.Need-sub-if2
-sub-if2 c = search needs
-
-returns-2 : tie.Need-returns-2
-unfolding gatherOf
-returns-2 c = search (tests, arith) depth 20 fits 4000
 
 sound-requires : tie.Need-sound-requires
 sound-requires c κs = search needs
 
+returns : tie.Need-returns
+unfolding gatherOf
+returns c =
+    let h : not (soundMarks (c .before .before .before .before .before .args .marks)) ≡ true = ap not (sym (c .before .sound .ensures)) ∙ c .if1 .taken in
+    search (tests, yes, arith) depth 20 fits 4000
+
+returns-2 : tie.Need-returns-2
+unfolding gatherOf
+returns-2 c =
+    let h : not (soundMarks (c .before .before .before .before .before .before .args .marks)) ≡ false = ap not (sym (c .before .before .sound .ensures)) ∙ c .before .if1 .left in
+    search (tests, no, arith) depth 20 fits 4000
+
 returns-3 : tie.Need-returns-3
 unfolding gatherOf
-returns-3 c = let h : not (soundMarks (c .before .before .before .before .before .before .before .args .marks)) ≡ true = ap not (sym (c .before .sound .ensures)) ∙ c .if3 .taken in
-    search (tests, yes, no, arith) depth 20 fits 4000
+returns-3 c =
+    let h : not (soundMarks (c .before .before .before .before .before .before .before .args .marks)) ≡ false = ap not (sym (c .before .before .before .sound .ensures)) ∙ c .before .before .if1 .left in
+    search (tests, no, arith) depth 20 fits 4000
+
+sub-if4 : tie.Need-sub-if4
+sub-if4 c = search needs
 
 returns-4 : tie.Need-returns-4
 unfolding gatherOf
-returns-4 c = let h : not (soundMarks (c .before .before .before .before .before .before .before .before .args .marks)) ≡ false = ap not (sym (c .before .before .sound .ensures)) ∙ c .before .if3 .left in
+returns-4 c =
+    let h : not (soundMarks (c .before .before .before .before .before .before .before .before .args .marks)) ≡ false = ap not (sym (c .before .before .before .before .sound .ensures)) ∙ c .before .before .before .if1 .left in
     search (tests, no, arith) depth 20 fits 4000
 
 returns-5 : tie.Need-returns-5
 unfolding gatherOf
-returns-5 c = let h : not (soundMarks (c .before .before .before .before .before .before .before .before .before .args .marks)) ≡ false = ap not (sym (c .before .before .before .sound .ensures)) ∙ c .before .before .if3 .left in
+returns-5 c =
+    let h : not (soundMarks (c .before .before .before .before .before .before .before .before .before .args .marks)) ≡ false = ap not (sym (c .before .before .before .before .before .sound .ensures)) ∙ c .before .before .before .before .if1 .left in
+    search (tests, no, arith) depth 20 fits 4000
+
+returns-6 : tie.Need-returns-6
+unfolding gatherOf
+returns-6 c =
+    let h : not (soundMarks (c .before .before .before .before .before .before .before .before .before .before .args .marks)) ≡ false = ap not (sym (c .before .before .before .before .before .before .sound .ensures)) ∙ c .before .before .before .before .before .if1 .left in
     search (tests, no, arith) depth 20 fits 4000
 
 accepted-requires : tie.Need-accepted-requires
-accepted-requires c κs = let h : soundMarks (c .before .before .before .before .before .before .before .before .before .before .before .args .marks) ≡ true = sym (c .before .before .before .before .before .sound .ensures) ∙ not-false _ (c .before .before .before .before .if3 .left) in
-    let w = sound-says (c .before .before .before .before .before .before .before .before .before .before .before .args .marks) h in
+accepted-requires c κs =
+    let h : soundMarks (c .before .before .before .before .before .before .before .before .before .before .before .before .args .marks) ≡ true = sym (c .before .before .before .before .before .before .before .before .sound .ensures) ∙ not-false _ (c .before .before .before .before .before .before .before .if1 .left) in
+    let w = sound-says (c .before .before .before .before .before .before .before .before .before .before .before .before .args .marks) h in
     (omega (arith, w), h)
 
 same-length : tie.Need-same-length
@@ -51,9 +65,10 @@ same-length c = search needs
 same-length-2 : tie.Need-same-length-2
 same-length-2 c = search needs
 
-returns-6 : tie.Need-returns-6
+returns-7 : tie.Need-returns-7
 unfolding gatherOf
-returns-6 c = let h : not (soundMarks (c .before .before .before .before .before .before .before .before .before .before .before .before .before .before .before .before .args .marks)) ≡ false = ap not (sym (c .before .before .before .before .before .before .before .before .before .before .sound .ensures)) ∙ c .before .before .before .before .before .before .before .before .before .if3 .left in
+returns-7 c =
+    let h : not (soundMarks (c .before .before .before .before .before .before .before .before .before .before .before .before .before .before .before .before .before .args .marks)) ≡ false = ap not (sym (c .before .before .before .before .before .before .before .before .before .before .before .before .before .sound .ensures)) ∙ c .before .before .before .before .before .before .before .before .before .before .before .before .if1 .left in
     let e = c .before .before .before .before .accepted .ensures in
     search (tests, no, arith) depth 20 fits 4000
 
@@ -61,14 +76,15 @@ pub gather-spec : {M : Type 1} → statement M
 gather-spec =
     tie.close
     (tie.spec
-    returns
-    sub-if2
-    returns-2
     sound-requires
+    returns
+    returns-2
     returns-3
+    sub-if4
     returns-4
     returns-5
+    returns-6
     accepted-requires
     same-length
     same-length-2
-    returns-6)
+    returns-7)

@@ -4,7 +4,7 @@ use mathlib.Core.Path.{_≡_, ap, sym, _∙_}
 use Prim.Native.Nat.{_≤_}
 use lib.ListN.{length}
 use denote.Ref.{now}
-use Rattle.packet.specs.Packet.{told, readPacket}
+use Rattle.packet.specs.Packet.{toldReading, readPacket}
 use Rattle.packet.specs.declared.Reading.{Reading}
 use Rattle.packet.proofs.Accepted.{accepted}
 use Rattle.packet.proofs.Lent.{lent-part}
@@ -13,8 +13,8 @@ use Rattle.packet.proofs.payload.Statement.{statement}
 use Rattle.packet.proofs.payload.Tie as tie
 
 -- what the reading tells
-reads : (c : tie.After-read) (r : Reading) → c .read .result ≡ r → told r ≡ readPacket (now (c .before .before .args .bytes))
-reads c r e = ap told (sym e) ∙ c .read .ensures
+reads : (c : tie.After-read) (r : Reading) → c .read .result ≡ r → toldReading r ≡ readPacket (now (c .before .before .args .bytes))
+reads c r e = ap toldReading (sym e) ∙ c .read .ensures
 
 -- where a reading begins its payload
 inside : (c : tie.After-payload-start) → c .payload-start .result ≤ length (now (c .before .before .before .before .before .before .args .bytes))

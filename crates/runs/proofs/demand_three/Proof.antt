@@ -1,13 +1,15 @@
 -- The answer is true by computation, and the demand is proved in Demand.antt.
 -- Assumes nothing.
 use mathlib.Core.Path.{refl}
+use Rattle.runs.specs.Run.{ours}
 use Rattle.runs.proofs.demand_three.Statement.{statement}
 use Rattle.runs.proofs.demand_three.Tie as tie
 use Rattle.runs.proofs.Demand as demand
+use Rattle.runs.proofs.InOrder.{in-order}
+use Rattle.runs.proofs.Wrong.{excluded}
 
--- src/lib.rt:7:1
 returns : tie.Need-returns
-returns c = (refl, demand.statement, demand.in-order)
+returns c = (refl, record { holds = demand.statement; inOrder = in-order ours; excluded = excluded })
 
 pub demand-three-spec : {M : Type 1} → statement M
 demand-three-spec = tie.close (tie.spec returns)

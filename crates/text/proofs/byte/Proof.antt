@@ -5,8 +5,6 @@ use Rattle.rules.proofs.Refusal.{tests}
 use borrow.Author.Needs.{needs}
 use Rattle.text.proofs.byte.Statement.{statement}
 use Rattle.text.proofs.byte.Tie as tie
-use Rattle.text.proofs.byte.Reads as reads
-use Rattle.text.proofs.byte.Lts as lts
 
 slice-write-text : tie.Need-slice-write-text
 slice-write-text c = search needs

@@ -8,10 +8,6 @@ use Rattle.text.proofs.Digits.{decimal-is}
 use borrow.Author.Needs.{needs}
 use Rattle.text.proofs.decimal.Statement.{statement}
 use Rattle.text.proofs.decimal.Tie as tie
-use Rattle.text.proofs.decimal.Reads as reads
-use Rattle.text.proofs.decimal.Lts as lts
-use Rattle.io.proofs.decimal.Reads as decimal-reads
-use Rattle.text.proofs.word.Reads as word-reads
 
 decimal-requires : tie.Need-decimal-requires
 decimal-requires c κs = search needs

@@ -10,8 +10,6 @@ use denote.Ref.{ptr, now}
 use native.Mathlib.Omega.{arith}
 use Rattle.text.proofs.first.Statement.{statement}
 use Rattle.text.proofs.first.Tie as tie
-use Rattle.text.proofs.first.Reads as reads
-use Rattle.text.proofs.first.Lts as lts
 
 slice-aggregate-result : tie.Need-slice-aggregate-result
 slice-aggregate-result c = sym (length-take-le (c .before .before .args .size) (c .before .before .args .text .now) (omega arith))

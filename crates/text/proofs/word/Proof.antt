@@ -2,17 +2,14 @@
 -- Assumes nothing.
 use lib.ListN.{length, drop, drop-of-length-le}
 use lib.Seq.{drop-cons}
-use Rattle.text.specs.Text.{Text, withByte, withBytes}
-use Prim.Native.Nat.{ℕ, _≤_, _<_, _-_}
+use Rattle.text.specs.Text.{withBytes}
+use Prim.Native.Nat.{_≤_, _<_, _-_}
 use native.Mathlib.Numerals.{add-one}
 use mathlib.Core.Path.{_≡_, refl, sym, _∙_, ap}
 use native.Mathlib.Omega.{arith}
 use borrow.Author.Needs.{needs}
 use Rattle.text.proofs.word.Statement.{statement}
 use Rattle.text.proofs.word.Tie as tie
-use Rattle.text.proofs.word.Reads as reads
-use Rattle.text.proofs.word.Lts as lts
-use Rattle.text.proofs.byte.Reads as byte-reads
 
 abbrev Inv-loop : tie.InvT-loop
 Inv-loop text₀ at letters end₀ i₀ text end i =

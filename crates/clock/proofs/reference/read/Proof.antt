@@ -1,3 +1,5 @@
+-- A return for each row; the six bytes are the field's number, and past the last row its clock reference is the answer.
+-- Assumes nothing.
 use native.Mathlib.Omega.{arith}
 use mathlib.Core.Path.{ap}
 use borrow.Author.Tests.{le-ltb}
@@ -10,57 +12,40 @@ use Rattle.rules.proofs.Refusal.{tests}
 use borrow.Author.Needs.{needs}
 use Rattle.clock.proofs.reference.read.Statement.{statement}
 use Rattle.clock.proofs.reference.read.Tie as tie
-use Rattle.clock.proofs.reference.read.Reads as reads
-use Rattle.clock.proofs.reference.read.Lts as lts
-use Rattle.clock.proofs.reference.bits_of.Reads as bits-of-reads
-use Rattle.clock.proofs.reference.extension_of.Reads as extension-of-reads
-use Rattle.clock.proofs.reference.value_of.Reads as value-of-reads
 
--- src/reference.rt:55:9
 returns : tie.Need-returns
 returns c = search (tests, arith)
 
--- src/reference.rt:57:21
 shared-slice-read-bits-of : tie.Need-shared-slice-read-bits-of
 shared-slice-read-bits-of c = search needs
 
--- src/reference.rt:57:31
 shared-slice-read-bits-of-2 : tie.Need-shared-slice-read-bits-of-2
 shared-slice-read-bits-of-2 c = search needs
 
--- src/reference.rt:57:41
 shared-slice-read-bits-of-3 : tie.Need-shared-slice-read-bits-of-3
 shared-slice-read-bits-of-3 c = search needs
 
--- src/reference.rt:57:51
 shared-slice-read-bits-of-4 : tie.Need-shared-slice-read-bits-of-4
 shared-slice-read-bits-of-4 c = search needs
 
--- src/reference.rt:57:61
 shared-slice-read-bits-of-5 : tie.Need-shared-slice-read-bits-of-5
 shared-slice-read-bits-of-5 c = search needs
 
--- src/reference.rt:57:71
 shared-slice-read-bits-of-6 : tie.Need-shared-slice-read-bits-of-6
 shared-slice-read-bits-of-6 c = search needs
 
--- src/reference.rt:57:9
 bits-of-requires : tie.Need-bits-of-requires
 bits-of-requires c κs = search needs
 
--- src/reference.rt:58:9
 extension-of-requires : tie.Need-extension-of-requires
 extension-of-requires c κs = search needs
 
--- src/reference.rt:60:9
 returns-2 : tie.Need-returns-2
 returns-2 c = rw (← c .before .before .bits-of .ensures, ← c .before .extension-of .ensures) (search (tests, arith))
 
--- src/reference.rt:62:30
 value-of-requires : tie.Need-value-of-requires
 value-of-requires c κs = search needs
 
--- src/reference.rt:51:1
 returns-3 : tie.Need-returns-3
 returns-3 c =
     let low : extensionOf (c .before .before .before .bits-of .result) ≤ 299 = omega arith in

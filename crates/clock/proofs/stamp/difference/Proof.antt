@@ -1,3 +1,5 @@
+-- A return for each row; a wrapped subtraction may be reduced by a stamp's turn, and less half a turn the remainder fits a signed number.
+-- Assumes nothing.
 use native.Mathlib.Omega.{arith}
 use mathlib.Core.Path.{sym, _∙_}
 use Prim.Native.Nat.{_+_, _%_, _^_, _<_}
@@ -8,41 +10,31 @@ use mir.Syntax.{w64}
 use mir.Val.{toZ}
 use mir.ValLaws.{toZ-pos, toZ-ofZ}
 use Rattle.clock.specs.Range.{stampTurn}
-use Rattle.clock.proofs.Turns.{stamp-wraps}
+use Rattle.clock.proofs.Turn.{turns}
 use Rattle.clock.proofs.Signed.{remainder-fits}
 use Rattle.rules.proofs.Refusal.{tests}
 use borrow.Author.Needs.{needs}
 use Rattle.clock.proofs.stamp.difference.Statement.{statement}
 use Rattle.clock.proofs.stamp.difference.Tie as tie
-use Rattle.clock.proofs.stamp.difference.Reads as reads
-use Rattle.clock.proofs.stamp.difference.Lts as lts
-use Rattle.std.proofs.num.wrapping_sub_u64.Reads as wrapping-sub-u64-reads
 
--- src/stamp.rt:115:9
 returns : tie.Need-returns
 returns c = search (tests, arith)
 
--- src/stamp.rt:118:9
 returns-2 : tie.Need-returns-2
 returns-2 c = search (tests, arith)
 
--- src/stamp.rt:120:44
 add-wrapping-sub-u64 : tie.Need-add-wrapping-sub-u64
 add-wrapping-sub-u64 c = search needs
 
--- src/stamp.rt:120:17
 wrapping-sub-u64-requires : tie.Need-wrapping-sub-u64-requires
 wrapping-sub-u64-requires c κs = search needs
 
--- src/stamp.rt:121:20
 cast-t9 : tie.Need-cast-t9
 cast-t9 c = search needs
 
--- src/stamp.rt:121:19
 sub-t10 : tie.Need-sub-t10
 sub-t10 c = search (remainder-fits, needs)
 
--- src/stamp.rt:109:1
 returns-3 : tie.Need-returns-3
 returns-3 c =
     let a = c .before .before .before .args in
@@ -51,7 +43,7 @@ returns-3 c =
     rw (
       toZ-ofZ w64 (toZ w64 (w % stampTurn) -ℤ pos 4294967296) (remainder-fits w stampTurn (lit< tt) (lit≤ tt)),
       toZ-pos w64 (w % stampTurn) below,
-      stamp-wraps (a .a .0 + 4294967296) (a .b .0) w (search) (c .wrapping-sub-u64 .ensures ∙ sym (mod-eq-of-lt (omega arith))),
+      turns .stampsWrap (a .a .0 + 4294967296) (a .b .0) w (search) (c .wrapping-sub-u64 .ensures ∙ sym (mod-eq-of-lt (omega arith))),
     )
     (search (tests, arith))
 

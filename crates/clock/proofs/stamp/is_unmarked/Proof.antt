@@ -1,10 +1,9 @@
+-- The test is the definition's; the last marker has no bit after it.
+-- Assumes nothing.
 use native.Mathlib.Nat.{div-one}
 use Rattle.clock.proofs.stamp.is_unmarked.Statement.{statement}
 use Rattle.clock.proofs.stamp.is_unmarked.Tie as tie
-use Rattle.clock.proofs.stamp.is_unmarked.Reads as reads
-use Rattle.clock.proofs.stamp.is_unmarked.Lts as lts
 
--- src/stamp.rt:42:1
 returns : tie.Need-returns
 returns c = rw (div-one _)
 

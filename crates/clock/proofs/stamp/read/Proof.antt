@@ -1,64 +1,47 @@
+-- A return for each row; the five bytes are the field's number, and past the last row its stamp is the answer.
+-- Assumes nothing.
 use native.Mathlib.Omega.{arith}
 use Rattle.rules.proofs.Refusal.{tests}
 use borrow.Author.Needs.{needs}
 use Rattle.clock.proofs.stamp.read.Statement.{statement}
 use Rattle.clock.proofs.stamp.read.Tie as tie
-use Rattle.clock.proofs.stamp.read.Reads as reads
-use Rattle.clock.proofs.stamp.read.Lts as lts
-use Rattle.clock.proofs.stamp.bits_of.Reads as bits-of-reads
-use Rattle.clock.proofs.stamp.is_no_prefix.Reads as is-no-prefix-reads
-use Rattle.clock.proofs.stamp.is_unmarked.Reads as is-unmarked-reads
-use Rattle.clock.proofs.stamp.value_of.Reads as value-of-reads
 
--- src/stamp.rt:59:8
 is-no-prefix-requires : tie.Need-is-no-prefix-requires
 is-no-prefix-requires c κs = search needs
 
--- src/stamp.rt:60:9
 returns : tie.Need-returns
 returns c = search (tests, arith)
 
--- src/stamp.rt:63:9
 returns-2 : tie.Need-returns-2
 returns-2 c = search (tests, arith)
 
--- src/stamp.rt:65:21
 shared-slice-read-bits-of : tie.Need-shared-slice-read-bits-of
 shared-slice-read-bits-of c = search needs
 
--- src/stamp.rt:65:31
 shared-slice-read-bits-of-2 : tie.Need-shared-slice-read-bits-of-2
 shared-slice-read-bits-of-2 c = search needs
 
--- src/stamp.rt:65:41
 shared-slice-read-bits-of-3 : tie.Need-shared-slice-read-bits-of-3
 shared-slice-read-bits-of-3 c = search needs
 
--- src/stamp.rt:65:51
 shared-slice-read-bits-of-4 : tie.Need-shared-slice-read-bits-of-4
 shared-slice-read-bits-of-4 c = search needs
 
--- src/stamp.rt:65:61
 shared-slice-read-bits-of-5 : tie.Need-shared-slice-read-bits-of-5
 shared-slice-read-bits-of-5 c = search needs
 
--- src/stamp.rt:65:9
 bits-of-requires : tie.Need-bits-of-requires
 bits-of-requires c κs = search needs
 
--- src/stamp.rt:66:8
 is-unmarked-requires : tie.Need-is-unmarked-requires
 is-unmarked-requires c κs = search needs
 
--- src/stamp.rt:67:9
 returns-3 : tie.Need-returns-3
 returns-3 c = rw (← c .before .before .bits-of .ensures) (search (tests, arith))
 
--- src/stamp.rt:69:26
 value-of-requires : tie.Need-value-of-requires
 value-of-requires c κs = search needs
 
--- src/stamp.rt:56:1
 returns-4 : tie.Need-returns-4
 returns-4 c = rw (← c .before .before .before .bits-of .ensures) (search (tests, c .value-of .ensures, arith))
 

@@ -5,7 +5,7 @@ use Prim.Native.Nat.{ℕ, _*_, _%_, _^_, _<_}
 use native.Mathlib.Omega.{arith}
 use lib.Bits.{bitXor, xor-lt}
 use lib.Dec.{lit<}
-use Rattle.crc.specs.Register.{turns}
+use Rattle.crc.specs.Steps.Register.{turns}
 use Rattle.crc.proofs.Rule.{entry-turns}
 use borrow.Author.Needs.{needs}
 use Rattle.crc.proofs.table.last.Statement.{statement}

@@ -5,7 +5,7 @@ use Prim.Native.Nat.{ℕ, _*_, _/_, _%_, _^_}
 use native.Mathlib.Omega.{arith}
 use lib.Bits.{bitXor}
 use borrow.Author.Needs.{needs}
-use Rattle.crc.specs.Register.{turnOf}
+use Rattle.crc.specs.Steps.Register.{turnOf}
 use Rattle.crc.proofs.table.turn.Statement.{statement}
 use Rattle.crc.proofs.table.turn.Tie as tie
 

@@ -4,18 +4,13 @@ use borrow.Author.Tests.{eq-eqb, ne-eqb}
 use borrow.Author.Needs.{needs}
 use Rattle.driver.proofs.filters.left.Statement.{statement}
 use Rattle.driver.proofs.filters.left.Tie as tie
-use Rattle.driver.proofs.filters.left.Reads as reads
-use Rattle.driver.proofs.filters.left.Lts as lts
 
--- src/filters.rt:144:9
 returns : tie.Need-returns
 returns c = rw (eq-eqb _ _ (c .if1 .taken))
 
--- src/filters.rt:158:16
 sub-t7 : tie.Need-sub-t7
 sub-t7 c = search needs
 
--- src/filters.rt:139:1
 returns-2 : tie.Need-returns-2
 returns-2 c = rw (ne-eqb _ _ (c .before .before .before .if1 .left))
 

@@ -3,51 +3,37 @@
 use borrow.Author.Needs.{needs}
 use Rattle.driver.proofs.filters.with_filter.Statement.{statement}
 use Rattle.driver.proofs.filters.with_filter.Tie as tie
-use Rattle.driver.proofs.filters.with_filter.Reads as reads
-use Rattle.driver.proofs.filters.with_filter.Lts as lts
-use Rattle.driver.proofs.filters.joined.Reads as joined-reads
 
--- src/filters.rt:78:15
 mul-own : tie.Need-mul-own
 mul-own c = search needs
 
--- src/filters.rt:78:15
 array-copy-out-own : tie.Need-array-copy-out-own
 array-copy-out-own c = search needs
 
--- src/filters.rt:79:19
 joined-requires : tie.Need-joined-requires
 joined-requires c κs = search needs
 
--- src/filters.rt:79:5
 mul-areas : tie.Need-mul-areas
 mul-areas c = search needs
 
--- src/filters.rt:79:5
 array-set-from-areas : tie.Need-array-set-from-areas
 array-set-from-areas c = search needs
 
--- src/filters.rt:81:17
 cast-t15 : tie.Need-cast-t15
 cast-t15 c = search needs
 
--- src/filters.rt:82:15
 cast-t16 : tie.Need-cast-t16
 cast-t16 c = search needs
 
--- src/filters.rt:80:5
 mul-filters : tie.Need-mul-filters
 mul-filters c = search needs
 
--- src/filters.rt:80:5
 array-set-from-filters : tie.Need-array-set-from-filters
 array-set-from-filters c = search needs
 
--- src/filters.rt:87:15
 add-t22 : tie.Need-add-t22
 add-t22 c = search needs
 
--- src/filters.rt:71:1
 returns : tie.Need-returns
 returns c = rw (c .joined .ensures)
 

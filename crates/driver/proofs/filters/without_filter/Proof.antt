@@ -3,51 +3,37 @@
 use borrow.Author.Needs.{needs}
 use Rattle.driver.proofs.filters.without_filter.Statement.{statement}
 use Rattle.driver.proofs.filters.without_filter.Tie as tie
-use Rattle.driver.proofs.filters.without_filter.Reads as reads
-use Rattle.driver.proofs.filters.without_filter.Lts as lts
-use Rattle.driver.proofs.filters.left.Reads as left-reads
 
--- src/filters.rt:170:18
 mul-filter : tie.Need-mul-filter
 mul-filter c = search needs
 
--- src/filters.rt:170:18
 array-copy-out-filter : tie.Need-array-copy-out-filter
 array-copy-out-filter c = search needs
 
--- src/filters.rt:171:16
 cast-area : tie.Need-cast-area
 cast-area c = search needs
 
--- src/filters.rt:172:15
 mul-own : tie.Need-mul-own
 mul-own c = search needs
 
--- src/filters.rt:172:15
 array-copy-out-own : tie.Need-array-copy-out-own
 array-copy-out-own c = search needs
 
--- src/filters.rt:173:19
 left-requires : tie.Need-left-requires
 left-requires c κs = search needs
 
--- src/filters.rt:173:5
 mul-areas : tie.Need-mul-areas
 mul-areas c = search needs
 
--- src/filters.rt:173:5
 array-set-from-areas : tie.Need-array-set-from-areas
 array-set-from-areas c = search needs
 
--- src/filters.rt:174:5
 mul-filters : tie.Need-mul-filters
 mul-filters c = search needs
 
--- src/filters.rt:174:5
 array-set-from-filters : tie.Need-array-set-from-filters
 array-set-from-filters c = search needs
 
--- src/filters.rt:164:1
 returns : tie.Need-returns
 returns c = rw (c .left .ensures)
 

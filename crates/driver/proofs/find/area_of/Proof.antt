@@ -1,21 +1,16 @@
 -- What is left to search is what the answer hangs on: no element passed passes the test.
 -- Assumes nothing.
-use mathlib.Core.Path.{_≡_, sym, _∙_, ap}
-use mathlib.Core.Bool.{Bool, true, false, not, _&&_}
+use mathlib.Core.Path.{_≡_, sym, _∙_}
 use native.Mathlib.Nat.{zero-add}
-use Prim.Native.Nat.{ℕ, _≤_, _-_, _+_}
+use Prim.Native.Nat.{_≤_, _-_, _+_}
 use native.Mathlib.Omega.{arith}
-use borrow.Author.Tests.{eq-eqb, ne-eqb}
-use lib.Dec.{eqb}
 use lib.ListN.{length, drop}
 use Rattle.rules.specs.Walk.{find}
 use Rattle.rules.proofs.Walk.{find-stops, find-goes, find-ends}
-use Rattle.driver.specs.State.{freeArea, hasPid, isFree, isOpen}
+use Rattle.driver.specs.State.{freeArea, hasPid}
 use borrow.Author.Needs.{needs}
 use Rattle.driver.proofs.find.area_of.Statement.{statement}
 use Rattle.driver.proofs.find.area_of.Tie as tie
-use Rattle.driver.proofs.find.area_of.Reads as reads
-use Rattle.driver.proofs.find.area_of.Lts as lts
 
 abbrev Inv-loop : tie.InvT-loop
 Inv-loop pid areas i₀ i = (i ≤ 8) × (find (hasPid pid) areas ≡ i + find (hasPid pid) (drop i areas))
@@ -23,41 +18,33 @@ Inv-loop pid areas i₀ i = (i ≤ 8) × (find (hasPid pid) areas ≡ i + find (
 abbrev μ-loop : tie.MeasureT-loop
 μ-loop pid areas i₀ i = 8 - i
 
--- src/find.rt:13:5
 loop-holds : tie.Need-loop-holds Inv-loop μ-loop
 loop-holds c = (search needs, sym (zero-add _))
 
--- src/find.rt:14:20
 mul-area : tie.Need-mul-area Inv-loop μ-loop
 mul-area c = search needs
 
--- src/find.rt:14:20
 array-copy-out-area : tie.Need-array-copy-out-area Inv-loop μ-loop
 array-copy-out-area c = search needs
 
--- src/find.rt:17:13
 returns : tie.Need-returns Inv-loop μ-loop
 returns c =
     let l = c .before .before .before .before .before .before .before .args .t1 in
     let long : length l ≡ 8 = search needs in
     sym (find-stops (hasPid (c .before .before .before .before .before .before .before .args .pid)) l (c .before .before .before .before .before .before .loop .i) (find (hasPid (c .before .before .before .before .before .before .before .args .pid)) l) (c .before .before .before .before .before .before .loop .inv .1) freeArea (omega arith) (c .if1 .taken))
 
--- src/find.rt:19:9
 add-i : tie.Need-add-i Inv-loop μ-loop
 add-i c = search needs
 
--- src/find.rt:13:5
 loop-less : tie.Need-loop-less Inv-loop μ-loop
 loop-less c = search needs
 
--- src/find.rt:13:5
 loop-again : tie.Need-loop-again Inv-loop μ-loop
 loop-again c =
     let l = c .before .before .before .before .before .before .before .args .t1 in
     let long : length l ≡ 8 = search needs in
     (omega arith, find-goes (hasPid (c .before .before .before .before .before .before .before .args .pid)) l (c .before .before .before .before .before .before .loop .i) (find (hasPid (c .before .before .before .before .before .before .before .args .pid)) l) (c .before .before .before .before .before .before .loop .inv .1) freeArea (omega arith) (c .if1 .left))
 
--- src/find.rt:9:1
 returns-2 : tie.Need-returns-2 Inv-loop μ-loop
 returns-2 c =
     let l = c .before .before .args .t1 in

@@ -1,21 +1,17 @@
 -- What is left to search is what the answer hangs on: no element passed passes the test.
 -- Assumes nothing.
-use mathlib.Core.Path.{_≡_, sym, _∙_, ap}
-use mathlib.Core.Bool.{Bool, true, false, not, _&&_}
+use mathlib.Core.Path.{_≡_, sym, _∙_}
 use native.Mathlib.Nat.{zero-add}
-use Prim.Native.Nat.{ℕ, _≤_, _-_, _+_}
+use Prim.Native.Nat.{_≤_, _-_, _+_}
 use native.Mathlib.Omega.{arith}
 use borrow.Author.Tests.{eq-eqb, ne-eqb}
-use lib.Dec.{eqb}
 use lib.ListN.{length, drop}
 use Rattle.rules.specs.Walk.{find}
 use Rattle.rules.proofs.Walk.{find-stops, find-goes, find-ends}
-use Rattle.driver.specs.State.{freeFilter, hasPid, isFree, isOpen}
+use Rattle.driver.specs.State.{freeFilter, isFree}
 use borrow.Author.Needs.{needs}
 use Rattle.driver.proofs.find.free_place.Statement.{statement}
 use Rattle.driver.proofs.find.free_place.Tie as tie
-use Rattle.driver.proofs.find.free_place.Reads as reads
-use Rattle.driver.proofs.find.free_place.Lts as lts
 
 abbrev Inv-loop : tie.InvT-loop
 Inv-loop filters i₀ i = (i ≤ 32) × (find isFree filters ≡ i + find isFree (drop i filters))
@@ -23,41 +19,33 @@ Inv-loop filters i₀ i = (i ≤ 32) × (find isFree filters ≡ i + find isFree
 abbrev μ-loop : tie.MeasureT-loop
 μ-loop filters i₀ i = 32 - i
 
--- src/find.rt:44:5
 loop-holds : tie.Need-loop-holds Inv-loop μ-loop
 loop-holds c = (search needs, sym (zero-add _))
 
--- src/find.rt:45:22
 mul-filter : tie.Need-mul-filter Inv-loop μ-loop
 mul-filter c = search needs
 
--- src/find.rt:45:22
 array-copy-out-filter : tie.Need-array-copy-out-filter Inv-loop μ-loop
 array-copy-out-filter c = search needs
 
--- src/find.rt:47:13
 returns : tie.Need-returns Inv-loop μ-loop
 returns c =
     let l = c .before .before .before .before .before .args .t1 in
     let long : length l ≡ 32 = search needs in
     sym (find-stops isFree l (c .before .before .before .before .loop .i) (find isFree l) (c .before .before .before .before .loop .inv .1) freeFilter (omega arith) (eq-eqb _ _ (c .if1 .taken)))
 
--- src/find.rt:49:9
 add-i : tie.Need-add-i Inv-loop μ-loop
 add-i c = search needs
 
--- src/find.rt:44:5
 loop-less : tie.Need-loop-less Inv-loop μ-loop
 loop-less c = search needs
 
--- src/find.rt:44:5
 loop-again : tie.Need-loop-again Inv-loop μ-loop
 loop-again c =
     let l = c .before .before .before .before .before .args .t1 in
     let long : length l ≡ 32 = search needs in
     (omega arith, find-goes isFree l (c .before .before .before .before .loop .i) (find isFree l) (c .before .before .before .before .loop .inv .1) freeFilter (omega arith) (ne-eqb _ _ (c .if1 .left)))
 
--- src/find.rt:40:1
 returns-2 : tie.Need-returns-2 Inv-loop μ-loop
 returns-2 c =
     let l = c .before .before .args .t1 in

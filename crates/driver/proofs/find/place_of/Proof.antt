@@ -1,21 +1,18 @@
 -- What is left to search is what the answer hangs on: no element passed passes the test.
 -- Assumes nothing.
-use mathlib.Core.Path.{_≡_, sym, _∙_, ap}
-use mathlib.Core.Bool.{Bool, true, false, not, _&&_}
+use mathlib.Core.Path.{_≡_, sym, _∙_}
+use mathlib.Core.Bool.{_&&_}
 use native.Mathlib.Nat.{zero-add}
-use Prim.Native.Nat.{ℕ, _≤_, _-_, _+_}
+use Prim.Native.Nat.{_≤_, _-_, _+_}
 use native.Mathlib.Omega.{arith}
-use borrow.Author.Tests.{eq-eqb, ne-eqb}
 use lib.Dec.{eqb}
 use lib.ListN.{length, drop}
 use Rattle.rules.specs.Walk.{find}
 use Rattle.rules.proofs.Walk.{find-stops, find-goes, find-ends}
-use Rattle.driver.specs.State.{freeFilter, hasPid, isFree, isOpen}
+use Rattle.driver.specs.State.{freeFilter, isOpen}
 use borrow.Author.Needs.{needs}
 use Rattle.driver.proofs.find.place_of.Statement.{statement}
 use Rattle.driver.proofs.find.place_of.Tie as tie
-use Rattle.driver.proofs.find.place_of.Reads as reads
-use Rattle.driver.proofs.find.place_of.Lts as lts
 
 abbrev Inv-loop : tie.InvT-loop
 Inv-loop number filters i₀ i = (i ≤ 32) × (find (λ f. isOpen f && eqb (f .number) number) filters ≡ i + find (λ f. isOpen f && eqb (f .number) number) (drop i filters))
@@ -23,41 +20,33 @@ Inv-loop number filters i₀ i = (i ≤ 32) × (find (λ f. isOpen f && eqb (f .
 abbrev μ-loop : tie.MeasureT-loop
 μ-loop number filters i₀ i = 32 - i
 
--- src/find.rt:59:5
 loop-holds : tie.Need-loop-holds Inv-loop μ-loop
 loop-holds c = (search needs, sym (zero-add _))
 
--- src/find.rt:60:22
 mul-filter : tie.Need-mul-filter Inv-loop μ-loop
 mul-filter c = search needs
 
--- src/find.rt:60:22
 array-copy-out-filter : tie.Need-array-copy-out-filter Inv-loop μ-loop
 array-copy-out-filter c = search needs
 
--- src/find.rt:62:13
 returns : tie.Need-returns Inv-loop μ-loop
 returns c =
     let l = c .before .before .before .before .before .before .args .t1 in
     let long : length l ≡ 32 = search needs in
     sym (find-stops (λ f. isOpen f && eqb (f .number) (c .before .before .before .before .before .before .args .number)) l (c .before .before .before .before .before .loop .i) (find (λ f. isOpen f && eqb (f .number) (c .before .before .before .before .before .before .args .number)) l) (c .before .before .before .before .before .loop .inv .1) freeFilter (omega arith) (c .if1 .taken))
 
--- src/find.rt:64:9
 add-i : tie.Need-add-i Inv-loop μ-loop
 add-i c = search needs
 
--- src/find.rt:59:5
 loop-less : tie.Need-loop-less Inv-loop μ-loop
 loop-less c = search needs
 
--- src/find.rt:59:5
 loop-again : tie.Need-loop-again Inv-loop μ-loop
 loop-again c =
     let l = c .before .before .before .before .before .before .args .t1 in
     let long : length l ≡ 32 = search needs in
     (omega arith, find-goes (λ f. isOpen f && eqb (f .number) (c .before .before .before .before .before .before .args .number)) l (c .before .before .before .before .before .loop .i) (find (λ f. isOpen f && eqb (f .number) (c .before .before .before .before .before .before .args .number)) l) (c .before .before .before .before .before .loop .inv .1) freeFilter (omega arith) (c .if1 .left))
 
--- src/find.rt:55:1
 returns-2 : tie.Need-returns-2 Inv-loop μ-loop
 returns-2 c =
     let l = c .before .before .args .t1 in

@@ -4,19 +4,13 @@ use borrow.Author.Tests.{eq-eqb, ne-eqb}
 use borrow.Author.Needs.{needs}
 use Rattle.driver.proofs.sound.area_is_sound.Statement.{statement}
 use Rattle.driver.proofs.sound.area_is_sound.Tie as tie
-use Rattle.driver.proofs.sound.area_is_sound.Reads as reads
-use Rattle.driver.proofs.sound.area_is_sound.Lts as lts
-use Rattle.gather.proofs.sound.Reads as sound-reads
 
--- src/sound.rt:26:36
 sound-requires : tie.Need-sound-requires
 sound-requires c κs = search needs
 
--- src/sound.rt:26:9
 returns : tie.Need-returns
 returns c = rw (ne-eqb _ _ (c .before .before .if1 .taken), c .sound .ensures)
 
--- src/sound.rt:20:1
 returns-2 : tie.Need-returns-2
 returns-2 c = rw (eq-eqb _ _ (c .before .before .before .before .if1 .left))
 

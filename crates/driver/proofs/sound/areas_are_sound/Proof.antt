@@ -1,9 +1,7 @@
 -- What is left to test is what the answer hangs on: every area passed was sound.
 -- Assumes nothing.
-use mathlib.Core.Path.{_≡_, refl, sym, _∙_, ap}
-use mathlib.Core.Bool.{true, _&&_}
-use Prim.Native.Nat.{_≤_, _-_, _+_}
-use native.Mathlib.Numerals.{add-one}
+use mathlib.Core.Path.{_≡_, sym, _∙_}
+use Prim.Native.Nat.{_≤_, _-_}
 use native.Mathlib.Omega.{arith}
 use borrow.Author.Needs.{needs}
 use lib.ListN.{length, drop}
@@ -14,9 +12,6 @@ use Rattle.driver.specs.State.{freeArea}
 use Rattle.driver.specs.Sound.{soundArea}
 use Rattle.driver.proofs.sound.areas_are_sound.Statement.{statement}
 use Rattle.driver.proofs.sound.areas_are_sound.Tie as tie
-use Rattle.driver.proofs.sound.areas_are_sound.Reads as reads
-use Rattle.driver.proofs.sound.areas_are_sound.Lts as lts
-use Rattle.driver.proofs.sound.area_is_sound.Reads as area-is-sound-reads
 
 abbrev Inv-loop : tie.InvT-loop
 Inv-loop areas i₀ i = (i ≤ 8) × (all soundArea areas ≡ all soundArea (drop i areas))
@@ -24,23 +19,18 @@ Inv-loop areas i₀ i = (i ≤ 8) × (all soundArea areas ≡ all soundArea (dro
 abbrev μ-loop : tie.MeasureT-loop
 μ-loop areas i₀ i = 8 - i
 
--- src/sound.rt:36:5
 loop-holds : tie.Need-loop-holds Inv-loop μ-loop
 loop-holds c = search needs
 
--- src/sound.rt:37:20
 mul-area : tie.Need-mul-area Inv-loop μ-loop
 mul-area c = search needs
 
--- src/sound.rt:37:20
 array-copy-out-area : tie.Need-array-copy-out-area Inv-loop μ-loop
 array-copy-out-area c = search needs
 
--- src/sound.rt:38:13
 area-is-sound-requires : tie.Need-area-is-sound-requires Inv-loop μ-loop
 area-is-sound-requires c κs = search needs
 
--- src/sound.rt:39:13
 returns : tie.Need-returns Inv-loop μ-loop
 returns c =
     let l = c .before .before .before .before .before .args .t1 in
@@ -49,15 +39,12 @@ returns c =
     let e = not-true _ (c .if1 .taken) in
     sym (all-stops soundArea l i (all soundArea l) (c .before .before .before .before .loop .inv .1) freeArea (omega arith) (sym (c .before .area-is-sound .ensures) ∙ e))
 
--- src/sound.rt:41:9
 add-i : tie.Need-add-i Inv-loop μ-loop
 add-i c = search needs
 
--- src/sound.rt:36:5
 loop-less : tie.Need-loop-less Inv-loop μ-loop
 loop-less c = search needs
 
--- src/sound.rt:36:5
 loop-again : tie.Need-loop-again Inv-loop μ-loop
 loop-again c =
     let l = c .before .before .before .before .before .args .t1 in
@@ -68,7 +55,6 @@ loop-again c =
       all-goes soundArea l i (all soundArea l) (c .before .before .before .before .loop .inv .1) freeArea (omega arith) (sym (c .before .area-is-sound .ensures) ∙ e),
     )
 
--- src/sound.rt:32:1
 returns-2 : tie.Need-returns-2 Inv-loop μ-loop
 returns-2 c =
     let l = c .before .before .args .t1 in

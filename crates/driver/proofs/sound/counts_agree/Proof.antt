@@ -1,23 +1,17 @@
 -- What is left to compare is what the answer hangs on: every area passed has as many users as counted.
 -- Assumes nothing.
-use mathlib.Core.Path.{_≡_, refl, sym, _∙_, ap, ap₂}
+use mathlib.Core.Path.{_≡_, sym, _∙_, ap}
 use mathlib.Core.Bool.{Bool, _&&_}
-use mathlib.Core.List.{List, []}
-use Prim.Native.Nat.{ℕ, suc, _≤_, _<_, _-_, _+_}
+use Prim.Native.Nat.{ℕ, suc, _≤_, _-_}
 use native.Mathlib.Numerals.{add-one}
 use native.Mathlib.Omega.{arith}
 use borrow.Author.Tests.{eq-eqb, ne-eqb}
-use lib.Dec.{eqb}
-use lib.ListN.{length, drop, getD, drop-of-length-le}
+use lib.ListN.{length, drop, drop-of-length-le}
 use Rattle.driver.proofs.Tally.{agree-turn}
-use Rattle.driver.specs.State.{freeArea}
-use Rattle.driver.specs.Tally.{agree}
-use Rattle.driver.specs.declared.Area.{Area}
+use Rattle.driver.specs.Steps.Tally.{agree}
 use borrow.Author.Needs.{needs}
 use Rattle.driver.proofs.sound.counts_agree.Statement.{statement}
 use Rattle.driver.proofs.sound.counts_agree.Tie as tie
-use Rattle.driver.proofs.sound.counts_agree.Reads as reads
-use Rattle.driver.proofs.sound.counts_agree.Lts as lts
 
 abbrev Inv-loop : tie.InvT-loop
 Inv-loop counts areas i₀ i = (i ≤ 8) × (agree counts areas ≡ agree (drop i counts) (drop i areas))
@@ -25,23 +19,18 @@ Inv-loop counts areas i₀ i = (i ≤ 8) × (agree counts areas ≡ agree (drop 
 abbrev μ-loop : tie.MeasureT-loop
 μ-loop counts areas i₀ i = 8 - i
 
--- src/sound.rt:161:5
 loop-holds : tie.Need-loop-holds Inv-loop μ-loop
 loop-holds c = search needs
 
--- src/sound.rt:162:20
 mul-area : tie.Need-mul-area Inv-loop μ-loop
 mul-area c = search needs
 
--- src/sound.rt:162:20
 array-copy-out-area : tie.Need-array-copy-out-area Inv-loop μ-loop
 array-copy-out-area c = search needs
 
--- src/sound.rt:163:26
 array-read-if1 : tie.Need-array-read-if1 Inv-loop μ-loop
 array-read-if1 c = search needs
 
--- src/sound.rt:164:13
 returns : tie.Need-returns Inv-loop μ-loop
 returns c =
     let a = c .before .before .before .before .before .args in
@@ -53,15 +42,12 @@ returns c =
     ∙ agree-turn (a .t1) (a .t2) i (omega arith) (omega arith)
     ∙ ap (λ (b : Bool). b && agree (drop (suc i) (a .t1)) (drop (suc i) (a .t2))) (ne-eqb _ _ (c .if1 .taken)))
 
--- src/sound.rt:166:9
 add-i : tie.Need-add-i Inv-loop μ-loop
 add-i c = search needs
 
--- src/sound.rt:161:5
 loop-less : tie.Need-loop-less Inv-loop μ-loop
 loop-less c = search needs
 
--- src/sound.rt:161:5
 loop-again : tie.Need-loop-again Inv-loop μ-loop
 loop-again c =
     let a = c .before .before .before .before .before .args in
@@ -75,7 +61,6 @@ loop-again c =
           ∙ ap (λ (n : ℕ). agree (drop n (a .t1)) (drop n (a .t2))) (sym (add-one i)),
     )
 
--- src/sound.rt:157:1
 returns-2 : tie.Need-returns-2 Inv-loop μ-loop
 returns-2 c =
     let a = c .before .before .args in

@@ -12,9 +12,6 @@ use Rattle.driver.specs.Sound.{samePid}
 use borrow.Author.Needs.{needs}
 use Rattle.driver.proofs.sound.is_alone.Statement.{statement}
 use Rattle.driver.proofs.sound.is_alone.Tie as tie
-use Rattle.driver.proofs.sound.is_alone.Reads as reads
-use Rattle.driver.proofs.sound.is_alone.Lts as lts
-use Rattle.driver.proofs.sound.same_pid.Reads as same-pid-reads
 
 abbrev Inv-loop : tie.InvT-loop
 Inv-loop own from areas i₀ i = (i ≤ 8) × (all (λ b. not (samePid own b)) (drop from areas) ≡ all (λ b. not (samePid own b)) (drop i areas))
@@ -22,23 +19,18 @@ Inv-loop own from areas i₀ i = (i ≤ 8) × (all (λ b. not (samePid own b)) (
 abbrev μ-loop : tie.MeasureT-loop
 μ-loop own from areas i₀ i = 8 - i
 
--- src/sound.rt:61:5
 loop-holds : tie.Need-loop-holds Inv-loop μ-loop
 loop-holds c = search needs
 
--- src/sound.rt:62:21
 mul-other : tie.Need-mul-other Inv-loop μ-loop
 mul-other c = search needs
 
--- src/sound.rt:62:21
 array-copy-out-other : tie.Need-array-copy-out-other Inv-loop μ-loop
 array-copy-out-other c = search needs
 
--- src/sound.rt:63:12
 same-pid-requires : tie.Need-same-pid-requires Inv-loop μ-loop
 same-pid-requires c κs = search needs
 
--- src/sound.rt:64:13
 returns : tie.Need-returns Inv-loop μ-loop
 returns c =
     let l = c .before .before .before .before .before .args .t2 in
@@ -47,15 +39,12 @@ returns c =
     (all-stops (λ b. not (samePid (c .before .before .before .before .before .args .own) b)) l (c .before .before .before .before .loop .i) _ (c .before .before .before .before .loop .inv .1) freeArea (omega arith)
     (ap not (sym (c .before .same-pid .ensures) ∙ c .if1 .taken)))
 
--- src/sound.rt:66:9
 add-i : tie.Need-add-i Inv-loop μ-loop
 add-i c = search needs
 
--- src/sound.rt:61:5
 loop-less : tie.Need-loop-less Inv-loop μ-loop
 loop-less c = search needs
 
--- src/sound.rt:61:5
 loop-again : tie.Need-loop-again Inv-loop μ-loop
 loop-again c =
     let l = c .before .before .before .before .before .args .t2 in
@@ -65,7 +54,6 @@ loop-again c =
           (ap not (sym (c .before .same-pid .ensures) ∙ c .if1 .left)),
     )
 
--- src/sound.rt:56:1
 returns-2 : tie.Need-returns-2 Inv-loop μ-loop
 returns-2 c =
     let l = c .before .before .args .t2 in

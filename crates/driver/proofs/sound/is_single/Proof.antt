@@ -12,9 +12,6 @@ use Rattle.driver.specs.Sound.{sameNumber}
 use borrow.Author.Needs.{needs}
 use Rattle.driver.proofs.sound.is_single.Statement.{statement}
 use Rattle.driver.proofs.sound.is_single.Tie as tie
-use Rattle.driver.proofs.sound.is_single.Reads as reads
-use Rattle.driver.proofs.sound.is_single.Lts as lts
-use Rattle.driver.proofs.sound.same_number.Reads as same-number-reads
 
 abbrev Inv-loop : tie.InvT-loop
 Inv-loop own from filters i₀ i = (i ≤ 32) × (all (λ g. not (sameNumber own g)) (drop from filters) ≡ all (λ g. not (sameNumber own g)) (drop i filters))
@@ -22,23 +19,18 @@ Inv-loop own from filters i₀ i = (i ≤ 32) × (all (λ g. not (sameNumber own
 abbrev μ-loop : tie.MeasureT-loop
 μ-loop own from filters i₀ i = 32 - i
 
--- src/sound.rt:101:5
 loop-holds : tie.Need-loop-holds Inv-loop μ-loop
 loop-holds c = search needs
 
--- src/sound.rt:102:21
 mul-other : tie.Need-mul-other Inv-loop μ-loop
 mul-other c = search needs
 
--- src/sound.rt:102:21
 array-copy-out-other : tie.Need-array-copy-out-other Inv-loop μ-loop
 array-copy-out-other c = search needs
 
--- src/sound.rt:103:12
 same-number-requires : tie.Need-same-number-requires Inv-loop μ-loop
 same-number-requires c κs = search needs
 
--- src/sound.rt:104:13
 returns : tie.Need-returns Inv-loop μ-loop
 returns c =
     let l = c .before .before .before .before .before .args .t2 in
@@ -47,15 +39,12 @@ returns c =
     (all-stops (λ b. not (sameNumber (c .before .before .before .before .before .args .own) b)) l (c .before .before .before .before .loop .i) _ (c .before .before .before .before .loop .inv .1) freeFilter (omega arith)
     (ap not (sym (c .before .same-number .ensures) ∙ c .if1 .taken)))
 
--- src/sound.rt:106:9
 add-i : tie.Need-add-i Inv-loop μ-loop
 add-i c = search needs
 
--- src/sound.rt:101:5
 loop-less : tie.Need-loop-less Inv-loop μ-loop
 loop-less c = search needs
 
--- src/sound.rt:101:5
 loop-again : tie.Need-loop-again Inv-loop μ-loop
 loop-again c =
     let l = c .before .before .before .before .before .args .t2 in
@@ -65,7 +54,6 @@ loop-again c =
           (ap not (sym (c .before .same-number .ensures) ∙ c .if1 .left)),
     )
 
--- src/sound.rt:96:1
 returns-2 : tie.Need-returns-2 Inv-loop μ-loop
 returns-2 c =
     let l = c .before .before .args .t2 in

@@ -12,9 +12,6 @@ use Rattle.driver.specs.Sound.{sameNumber}
 use borrow.Author.Needs.{needs}
 use Rattle.driver.proofs.sound.numbers_differ.Statement.{statement}
 use Rattle.driver.proofs.sound.numbers_differ.Tie as tie
-use Rattle.driver.proofs.sound.numbers_differ.Reads as reads
-use Rattle.driver.proofs.sound.numbers_differ.Lts as lts
-use Rattle.driver.proofs.sound.is_single.Reads as is-single-reads
 
 abbrev Inv-loop : tie.InvT-loop
 Inv-loop filters i₀ i = (i ≤ 32) × (apart sameNumber filters ≡ apart sameNumber (drop i filters))
@@ -22,27 +19,21 @@ Inv-loop filters i₀ i = (i ≤ 32) × (apart sameNumber filters ≡ apart same
 abbrev μ-loop : tie.MeasureT-loop
 μ-loop filters i₀ i = 32 - i
 
--- src/sound.rt:116:5
 loop-holds : tie.Need-loop-holds Inv-loop μ-loop
 loop-holds c = search needs
 
--- src/sound.rt:117:19
 mul-own : tie.Need-mul-own Inv-loop μ-loop
 mul-own c = search needs
 
--- src/sound.rt:117:19
 array-copy-out-own : tie.Need-array-copy-out-own Inv-loop μ-loop
 array-copy-out-own c = search needs
 
--- src/sound.rt:118:37
 add-is-single : tie.Need-add-is-single Inv-loop μ-loop
 add-is-single c = search needs
 
--- src/sound.rt:118:13
 is-single-requires : tie.Need-is-single-requires Inv-loop μ-loop
 is-single-requires c κs = search needs
 
--- src/sound.rt:119:13
 returns : tie.Need-returns Inv-loop μ-loop
 returns c =
     let l = c .before .before .before .before .before .args .t1 in
@@ -51,15 +42,12 @@ returns c =
     (apart-stops sameNumber l (c .before .before .before .before .loop .i) _ (c .before .before .before .before .loop .inv .1) freeFilter (omega arith)
     (sym (c .before .is-single .ensures) ∙ not-true _ (c .if1 .taken)))
 
--- src/sound.rt:121:9
 add-i : tie.Need-add-i Inv-loop μ-loop
 add-i c = search needs
 
--- src/sound.rt:116:5
 loop-less : tie.Need-loop-less Inv-loop μ-loop
 loop-less c = search needs
 
--- src/sound.rt:116:5
 loop-again : tie.Need-loop-again Inv-loop μ-loop
 loop-again c =
     let l = c .before .before .before .before .before .args .t1 in
@@ -69,7 +57,6 @@ loop-again c =
           (sym (c .before .is-single .ensures) ∙ not-false _ (c .if1 .left)),
     )
 
--- src/sound.rt:112:1
 returns-2 : tie.Need-returns-2 Inv-loop μ-loop
 returns-2 c =
     let l = c .before .before .args .t1 in

@@ -12,9 +12,6 @@ use Rattle.driver.specs.Sound.{samePid}
 use borrow.Author.Needs.{needs}
 use Rattle.driver.proofs.sound.pids_differ.Statement.{statement}
 use Rattle.driver.proofs.sound.pids_differ.Tie as tie
-use Rattle.driver.proofs.sound.pids_differ.Reads as reads
-use Rattle.driver.proofs.sound.pids_differ.Lts as lts
-use Rattle.driver.proofs.sound.is_alone.Reads as is-alone-reads
 
 abbrev Inv-loop : tie.InvT-loop
 Inv-loop areas i₀ i = (i ≤ 8) × (apart samePid areas ≡ apart samePid (drop i areas))
@@ -22,27 +19,21 @@ Inv-loop areas i₀ i = (i ≤ 8) × (apart samePid areas ≡ apart samePid (dro
 abbrev μ-loop : tie.MeasureT-loop
 μ-loop areas i₀ i = 8 - i
 
--- src/sound.rt:76:5
 loop-holds : tie.Need-loop-holds Inv-loop μ-loop
 loop-holds c = search needs
 
--- src/sound.rt:77:19
 mul-own : tie.Need-mul-own Inv-loop μ-loop
 mul-own c = search needs
 
--- src/sound.rt:77:19
 array-copy-out-own : tie.Need-array-copy-out-own Inv-loop μ-loop
 array-copy-out-own c = search needs
 
--- src/sound.rt:78:34
 add-is-alone : tie.Need-add-is-alone Inv-loop μ-loop
 add-is-alone c = search needs
 
--- src/sound.rt:78:13
 is-alone-requires : tie.Need-is-alone-requires Inv-loop μ-loop
 is-alone-requires c κs = search needs
 
--- src/sound.rt:79:13
 returns : tie.Need-returns Inv-loop μ-loop
 returns c =
     let l = c .before .before .before .before .before .args .t1 in
@@ -51,15 +42,12 @@ returns c =
     (apart-stops samePid l (c .before .before .before .before .loop .i) _ (c .before .before .before .before .loop .inv .1) freeArea (omega arith)
     (sym (c .before .is-alone .ensures) ∙ not-true _ (c .if1 .taken)))
 
--- src/sound.rt:81:9
 add-i : tie.Need-add-i Inv-loop μ-loop
 add-i c = search needs
 
--- src/sound.rt:76:5
 loop-less : tie.Need-loop-less Inv-loop μ-loop
 loop-less c = search needs
 
--- src/sound.rt:76:5
 loop-again : tie.Need-loop-again Inv-loop μ-loop
 loop-again c =
     let l = c .before .before .before .before .before .args .t1 in
@@ -69,7 +57,6 @@ loop-again c =
           (sym (c .before .is-alone .ensures) ∙ not-false _ (c .if1 .left)),
     )
 
--- src/sound.rt:72:1
 returns-2 : tie.Need-returns-2 Inv-loop μ-loop
 returns-2 c =
     let l = c .before .before .args .t1 in

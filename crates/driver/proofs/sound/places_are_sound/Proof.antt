@@ -1,25 +1,18 @@
 -- The pass finds the places in range, the users counted and the classes met; the three clauses follow from that, and from the pairs where two numbers share a class.
 -- Assumes nothing.
-use mathlib.Core.Path.{_≡_, refl, sym, _∙_, ap}
-use mathlib.Core.Bool.{Bool, true, false, _&&_}
-use Prim.Native.Nat.{ℕ, _-_, _<_}
+use mathlib.Core.Path.{_≡_, sym, _∙_}
+use Prim.Native.Nat.{_-_}
 use native.Mathlib.Omega.{arith}
 use borrow.Author.Tests.{not-true, not-false}
 use lib.ListN.{length, getD}
 use Rattle.rules.proofs.Walk.{all-stops}
 use Rattle.rules.specs.Walk.{all}
 use Rattle.driver.specs.State.{freeFilter}
-use Rattle.driver.specs.Tally.{fitsPlace}
+use Rattle.driver.specs.Steps.Tally.{fitsPlace}
 use Rattle.driver.proofs.Tally.{Passed, passed-none, passed-turn, passed-ranged, passed-counts, passed-apart, counts-small, clauses-ranged, clauses-counted, clauses-apart, open-inside}
 use borrow.Author.Needs.{needs}
 use Rattle.driver.proofs.sound.places_are_sound.Statement.{statement}
 use Rattle.driver.proofs.sound.places_are_sound.Tie as tie
-use Rattle.driver.proofs.sound.places_are_sound.Reads as reads
-use Rattle.driver.proofs.sound.places_are_sound.Lts as lts
-use Rattle.driver.proofs.sound.counts_agree.Reads as counts-agree-reads
-use Rattle.driver.proofs.sound.fits_place.Reads as fits-place-reads
-use Rattle.driver.proofs.sound.numbers_differ.Reads as numbers-differ-reads
-use Rattle.driver.proofs.sound.tally.Reads as tally-reads
 
 abbrev Inv-loop : tie.InvT-loop
 Inv-loop areas next filters counts₀ met₀ alike₀ i₀ counts met alike i = Passed next filters counts met alike i
@@ -27,23 +20,18 @@ Inv-loop areas next filters counts₀ met₀ alike₀ i₀ counts met alike i = 
 abbrev μ-loop : tie.MeasureT-loop
 μ-loop areas next filters counts₀ met₀ alike₀ i₀ counts met alike i = 32 - i
 
--- src/sound.rt:180:5
 loop-holds : tie.Need-loop-holds Inv-loop μ-loop
 loop-holds c = passed-none _ _
 
--- src/sound.rt:181:22
 mul-filter : tie.Need-mul-filter Inv-loop μ-loop
 mul-filter c = search needs
 
--- src/sound.rt:181:22
 array-copy-out-filter : tie.Need-array-copy-out-filter Inv-loop μ-loop
 array-copy-out-filter c = search needs
 
--- src/sound.rt:182:13
 fits-place-requires : tie.Need-fits-place-requires Inv-loop μ-loop
 fits-place-requires c κs = search needs
 
--- src/sound.rt:183:13
 returns : tie.Need-returns Inv-loop μ-loop
 returns c =
     let a = c .before .before .before .before .before .args in
@@ -55,7 +43,6 @@ returns c =
     (all-stops (fitsPlace (a .next)) (a .t2) (l .i) (all (fitsPlace (a .next)) (a .t2)) (l .inv .ranged) freeFilter (omega arith)
     (sym (c .before .fits-place .ensures) ∙ not-true _ (c .if1 .taken))))
 
--- src/sound.rt:185:25
 tally-requires : tie.Need-tally-requires Inv-loop μ-loop
 tally-requires c κs =
     let a = c .before .before .before .before .before .before .before .args in
@@ -65,15 +52,12 @@ tally-requires c κs =
       counts-small (a .next) (a .t2) (l .counts) (l .met) (l .alike) (l .i) long (l .inv),
     )
 
--- src/sound.rt:186:9
 add-i : tie.Need-add-i Inv-loop μ-loop
 add-i c = search needs
 
--- src/sound.rt:180:5
 loop-less : tie.Need-loop-less Inv-loop μ-loop
 loop-less c = search needs
 
--- src/sound.rt:180:5
 loop-again : tie.Need-loop-again Inv-loop μ-loop
 loop-again c =
     let a = c .before .before .before .before .before .before .before .before .args in
@@ -83,11 +67,9 @@ loop-again c =
     (passed-turn (a .next) (a .t2) (l .counts) (l .met) (l .alike) (l .i) long (l .inv) (c .before .before .before .before .before .before .loop-test .taken)
     (sym (c .before .before .before .before .fits-place .ensures) ∙ not-false _ (c .before .before .before .if1 .left)))
 
--- src/sound.rt:188:9
 counts-agree-requires : tie.Need-counts-agree-requires Inv-loop μ-loop
 counts-agree-requires c κs = search needs
 
--- src/sound.rt:189:9
 returns-2 : tie.Need-returns-2 Inv-loop μ-loop
 returns-2 c =
     let a = c .before .before .before .before .args in
@@ -99,11 +81,9 @@ returns-2 c =
     (sym (passed-counts (a .next) (a .t2) (l .counts) (l .met) (l .alike) (l .i) long (l .inv) (c .before .before .loop-test .left) (a .areas) eight)
     ∙ sym (c .before .counts-agree .ensures) ∙ not-true _ (c .if2 .taken)))
 
--- src/sound.rt:192:9
 numbers-differ-requires : tie.Need-numbers-differ-requires Inv-loop μ-loop
 numbers-differ-requires c κs = search needs
 
--- src/sound.rt:192:9
 returns-3 : tie.Need-returns-3 Inv-loop μ-loop
 returns-3 c =
     let a = c .before .before .before .before .before .before .args in
@@ -117,7 +97,6 @@ returns-3 c =
     (sym (passed-counts (a .next) (a .t2) (l .counts) (l .met) (l .alike) (l .i) long (l .inv) (c .before .before .before .before .loop-test .left) (a .areas) eight)
     ∙ sym (c .before .before .before .counts-agree .ensures) ∙ not-false _ (c .before .before .if2 .left)))
 
--- src/sound.rt:173:1
 returns-4 : tie.Need-returns-4 Inv-loop μ-loop
 returns-4 c =
     let a = c .before .before .before .before .before .args in

@@ -1,6 +1,6 @@
 -- Gathering is never refused here, since the sizes serve and the marks of a sound state are sound; what it answers is handed on.
 -- Assumes nothing.
-use mathlib.Core.Path.{_≡_, refl, sym, _∙_, ap}
+use mathlib.Core.Path.{_≡_, sym, _∙_, ap}
 use mathlib.Core.Bool.{true}
 use Prim.Native.Nat.{_*_}
 use native.Mathlib.Omega.{arith}
@@ -8,7 +8,7 @@ use lib.ListN.{length, getD}
 use denote.Ref.{now}
 use Rattle.rules.proofs.Walk.{mapped-length}
 use Rattle.gather.specs.Rule.{Outcome, rule}
-use Rattle.gather.specs.Memory.{soundMarks, stateOf, wrote}
+use Rattle.gather.specs.Memory.{soundMarks, stateOf, toldGathering, leaves}
 use Rattle.gather.specs.declared.Gathering.{Gathering}
 use Rattle.gather.proofs.Stored.{serves, house}
 use Rattle.driver.specs.State.{freeArea}
@@ -17,11 +17,6 @@ use Rattle.driver.proofs.Taken.{done-apart, taken-is}
 use borrow.Author.Needs.{needs}
 use Rattle.driver.proofs.wanted.gathered.Statement.{statement}
 use Rattle.driver.proofs.wanted.gathered.Tie as tie
-use Rattle.driver.proofs.wanted.gathered.Reads as reads
-use Rattle.driver.proofs.wanted.gathered.Lts as lts
-use Rattle.driver.proofs.wanted.places_on.Reads as places-on-reads
-use Rattle.driver.proofs.wanted.unhandled.Reads as unhandled-reads
-use Rattle.gather.proofs.gather.Reads as gather-reads
 
 mul-area : tie.Need-mul-area
 mul-area c = search needs
@@ -70,14 +65,15 @@ returns c =
     let m = getD (a .state .areas) (a .i) freeArea .marks in
     let long : length (a .state .areas) ≡ 8 = search (needs, mapped-length, c .before .before .before .before .before .before .before .before .before .before .before .before .before .before .before .before .before .before .good) in
     let fine : soundMarks m ≡ true = area-marks (a .state) (sound-tells (a .state) (ready .fine)) (a .i) (omega arith) in
+    let few = within .2 in
     let room = house m (now (a .payload)) (now (a .store)) (a .i) (now (a .out)) fine (ready .whole) (within .0) (within .1) (ready .room) in
     let o : Outcome =
     rule (stateOf m (now (a .store)) (4096 * a .i)) (record { counter = a .counter; start = a .start; payload = now (a .payload) }) in
     absurd
     (done-apart o (now (a .store)) (now (a .out)) _ _ (a .i) _
-    (ap (λ (r : Gathering). wrote r (c .before .before .before .before .before .before .before .before .gather .last .1 .1 .1 .1 .0) (c .before .before .before .before .before .before .before .before .gather .last .1 .1 .1 .1 .1 .1 .0)) (sym (c .before .before .gathering .given .1))
+    (ap (λ (r : Gathering). leaves (toldGathering r) (c .before .before .before .before .before .before .before .before .gather .last .1 .1 .1 .1 .0) (c .before .before .before .before .before .before .before .before .gather .last .1 .1 .1 .1 .1 .1 .0)) (sym (c .before .before .gathering .given .1))
     ∙ c .before .before .before .before .before .before .before .before .gather .ensures
-    ∙ serves m (a .counter) (a .start) (now (a .payload)) (now (a .store)) (4096 * a .i) (now (a .out)) room fine))
+    ∙ serves m (a .counter) (a .start) (now (a .payload)) (now (a .store)) (4096 * a .i) (now (a .out)) room fine few))
 
 same-length-3 : tie.Need-same-length-3
 same-length-3 c = search needs
@@ -93,13 +89,14 @@ returns-2 c =
     let m = getD (a .state .areas) (a .i) freeArea .marks in
     let long : length (a .state .areas) ≡ 8 = search (needs, mapped-length, c .before .before .before .before .before .before .before .before .before .before .before .before .before .before .before .before .before .before .before .before .good) in
     let fine : soundMarks m ≡ true = area-marks (a .state) (sound-tells (a .state) (ready .fine)) (a .i) (omega arith) in
+    let few = within .2 in
     let room = house m (now (a .payload)) (now (a .store)) (a .i) (now (a .out)) fine (ready .whole) (within .0) (within .1) (ready .room) in
     let o : Outcome =
     rule (stateOf m (now (a .store)) (4096 * a .i)) (record { counter = a .counter; start = a .start; payload = now (a .payload) }) in
     taken-is (a .state) (a .i) o (now (a .store)) (now (a .out)) _ _ (c .before .before .before .before .gathering2 .given .0 .0) _ (c .places-on .ensures)
-    (ap (λ (r : Gathering). wrote r (c .before .before .before .before .before .before .before .before .before .before .gather .last .1 .1 .1 .1 .0) (c .before .before .before .before .before .before .before .before .before .before .gather .last .1 .1 .1 .1 .1 .1 .0)) (sym (c .before .before .before .before .gathering2 .given .1))
+    (ap (λ (r : Gathering). leaves (toldGathering r) (c .before .before .before .before .before .before .before .before .before .before .gather .last .1 .1 .1 .1 .0) (c .before .before .before .before .before .before .before .before .before .before .gather .last .1 .1 .1 .1 .1 .1 .0)) (sym (c .before .before .before .before .gathering2 .given .1))
     ∙ c .before .before .before .before .before .before .before .before .before .before .gather .ensures
-    ∙ serves m (a .counter) (a .start) (now (a .payload)) (now (a .store)) (4096 * a .i) (now (a .out)) room fine)
+    ∙ serves m (a .counter) (a .start) (now (a .payload)) (now (a .store)) (4096 * a .i) (now (a .out)) room fine few)
 
 pub gathered-spec : {M : Type 1} → statement M
 gathered-spec =

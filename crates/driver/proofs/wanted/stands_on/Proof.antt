@@ -2,17 +2,12 @@
 -- Assumes nothing.
 use mathlib.Core.Path.{refl}
 use Rattle.rules.proofs.Refusal.{yes, no}
-use borrow.Author.Needs.{needs}
 use Rattle.driver.proofs.wanted.stands_on.Statement.{statement}
 use Rattle.driver.proofs.wanted.stands_on.Tie as tie
-use Rattle.driver.proofs.wanted.stands_on.Reads as reads
-use Rattle.driver.proofs.wanted.stands_on.Lts as lts
 
--- src/wanted.rt:26:9
 returns : tie.Need-returns
 returns c = yes _ _ _ (c .if1 .taken) refl
 
--- src/wanted.rt:22:1
 returns-2 : tie.Need-returns-2
 returns-2 c = no _ _ _ (c .if1 .left) refl
 

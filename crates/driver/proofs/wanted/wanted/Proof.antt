@@ -1,29 +1,20 @@
 -- Each return is the first of the last three rows that applies; past them the payload is the packet's and short enough to gather.
 -- Assumes nothing.
 use mathlib.Core.Path.{_≡_, refl, sym, _∙_, ap, ap₂}
-use mathlib.Core.Bool.{Bool, true, false}
-use mathlib.Core.List.{List}
-use Prim.Native.Nat.{ℕ, _≤_, _*_, _-_}
+use Prim.Native.Nat.{ℕ, _*_, _-_}
 use native.Mathlib.Omega.{arith}
 use lib.ListN.{length, getD, take, drop}
 use denote.Ref.{now}
 use Rattle.rules.proofs.Refusal.{yes-by, no-by, yes≢, no≢}
-use Rattle.packet.specs.Packet.{Contents}
+use Rattle.packet.specs.Packet.{Contents, contents}
 use Rattle.gather.specs.Rule.{Packet, rule, leavesNone}
 use Rattle.gather.specs.Memory.{stateOf}
 use Rattle.driver.specs.State.{freeArea}
-use Rattle.driver.specs.Packet.{contents, taken}
-use Rattle.driver.proofs.Brought.{read-same, start-inside, part-payload, payload-short, packet-same}
+use Rattle.driver.specs.Packet.{putBack}
+use Rattle.driver.proofs.Brought.{read-same, start-inside, part-payload, payload-short, counter-few, packet-same}
 use borrow.Author.Needs.{needs}
 use Rattle.driver.proofs.wanted.wanted.Statement.{statement}
 use Rattle.driver.proofs.wanted.wanted.Tie as tie
-use Rattle.driver.proofs.wanted.wanted.Reads as reads
-use Rattle.driver.proofs.wanted.wanted.Lts as lts
-use Rattle.driver.proofs.wanted.gathered.Reads as gathered-reads
-use Rattle.driver.proofs.wanted.unhandled.Reads as unhandled-reads
-use Rattle.gather.proofs.contradicts.Reads as contradicts-reads
-use Rattle.gather.proofs.pointless.Reads as pointless-reads
-use Rattle.packet.proofs.payload_start.Reads as payload-start-reads
 
 mul-area : tie.Need-mul-area
 mul-area c = search needs
@@ -80,8 +71,8 @@ part-payload-start c =
 part-payload-end : tie.Need-part-payload-end
 part-payload-end c = search needs
 
-pointless-requires : tie.Need-pointless-requires
-pointless-requires c κs = search needs
+leaves-none-requires : tie.Need-leaves-none-requires
+leaves-none-requires c κs = search needs
 
 unhandled-requires-3 : tie.Need-unhandled-requires-3
 unhandled-requires-3 c κs = search needs
@@ -96,7 +87,7 @@ returns-3 c =
     let same = read-same b (a .packet) (c .before .before .before .before .before .before .before .before .before .before .before .before .before .before .before .before .pre .1 .1) in
     let scrambling : contents b .scrambling ≡ a .packet .scrambling = ap (λ (q : Contents). q .scrambling) same in
     let part = ap (λ (n : ℕ). take (length b - n) (drop n b)) (c .before .before .before .before .payload-start .ensures) ∙ part-payload b (a .packet) (c .before .before .before .before .before .before .before .before .before .before .before .before .before .before .before .before .pre .1 .1) in
-    let none = c .before .before .pointless .ensures ∙ ap₂ leavesNone (ap (λ (q : Contents). q .unitStart) (sym same)) part in
+    let none = c .before .before .leaves-none .ensures ∙ ap₂ leavesNone (ap (λ (q : Contents). q .unitStart) (sym same)) part in
     rw (c .unhandled3 .ensures)
     (no-by _ _ _ _ (c .before .before .before .before .before .before .before .before .contradicts .ensures) (c .before .before .before .before .before .before .before .if1 .left)
     (no≢ _ _ _ _ (scrambling ∙ c .before .before .before .before .before .if2 .left) (yes-by _ _ _ _ none (c .before .if3 .taken) refl)))
@@ -105,8 +96,10 @@ gathered-requires : tie.Need-gathered-requires
 gathered-requires c κs =
     let a = c .before .before .before .before .before .before .before .before .before .before .before .before .before .before .before .before .before .args in
     let b = now (a .bytes) in
-    let short = payload-short b (a .packet) (c .before .before .before .before .before .before .before .before .before .before .before .before .before .before .before .before .before .pre .1 .1) in
-    (c .before .before .before .before .before .before .before .before .before .before .before .before .before .before .before .before .before .pre .0, (c .before .before .before .before .before .before .before .before .before .before .before .before .before .before .before .before .before .pre .1 .0, rw (c .before .before .before .before .before .payload-start .ensures) short))
+    let read = c .before .before .before .before .before .before .before .before .before .before .before .before .before .before .before .before .before .pre .1 .1 in
+    let short = payload-short b (a .packet) read in
+    let few = counter-few b (a .packet) read in
+    (c .before .before .before .before .before .before .before .before .before .before .before .before .before .before .before .before .before .pre .0, (c .before .before .before .before .before .before .before .before .before .before .before .before .before .before .before .before .before .pre .1 .0, rw (c .before .before .before .before .before .payload-start .ensures) short, few))
 
 same-length-4 : tie.Need-same-length-4
 same-length-4 c = search needs
@@ -121,13 +114,13 @@ returns-4 c =
     let same = read-same b (a .packet) (c .before .before .before .before .before .before .before .before .before .before .before .before .before .before .before .before .before .before .before .before .before .before .pre .1 .1) in
     let scrambling : contents b .scrambling ≡ a .packet .scrambling = ap (λ (q : Contents). q .scrambling) same in
     let part = ap (λ (n : ℕ). take (length b - n) (drop n b)) (c .before .before .before .before .before .before .before .before .before .before .payload-start .ensures) ∙ part-payload b (a .packet) (c .before .before .before .before .before .before .before .before .before .before .before .before .before .before .before .before .before .before .before .before .before .before .pre .1 .1) in
-    let none = c .before .before .before .before .before .before .before .before .pointless .ensures ∙ ap₂ leavesNone (ap (λ (q : Contents). q .unitStart) (sym same)) part in
+    let none = c .before .before .before .before .before .before .before .before .leaves-none .ensures ∙ ap₂ leavesNone (ap (λ (q : Contents). q .unitStart) (sym same)) part in
     let brought = packet-same _ _ _ _ _ _ (ap (λ (q : Contents). q .counter) (sym same)) (ap (λ (q : Contents). q .unitStart) (sym same)) part in
     no-by _ _ _ _ (c .before .before .before .before .before .before .before .before .before .before .before .before .before .before .contradicts .ensures) (c .before .before .before .before .before .before .before .before .before .before .before .before .before .if1 .left)
     (no≢ _ _ _ _ (scrambling ∙ c .before .before .before .before .before .before .before .before .before .before .before .if2 .left)
     (no-by _ _ _ _ none (c .before .before .before .before .before .before .before .if3 .left)
     (c .before .before .before .before .gathered .ensures
-    ∙ ap (λ (pk : Packet). taken (a .state) (a .i) (rule (stateOf (getD (a .state .areas) (a .i) freeArea .marks) (now (a .store)) (4096 * a .i)) pk) (now (a .store)) (now (a .out))) brought)))
+    ∙ ap (λ (pk : Packet). putBack (a .state) (a .i) (rule (stateOf (getD (a .state .areas) (a .i) freeArea .marks) (now (a .store)) (4096 * a .i)) pk) (now (a .store)) (now (a .out))) brought)))
 
 pub wanted-spec : {M : Type 1} → statement M
 wanted-spec =
@@ -147,7 +140,7 @@ wanted-spec =
     sub-payload
     part-payload-start
     part-payload-end
-    pointless-requires
+    leaves-none-requires
     unhandled-requires-3
     same-length-3
     returns-3

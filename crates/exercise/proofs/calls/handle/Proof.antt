@@ -5,10 +5,6 @@ use lib.Seq.{length-take-le}
 use borrow.Author.Needs.{needs}
 use Rattle.exercise.proofs.calls.handle.Statement.{statement}
 use Rattle.exercise.proofs.calls.handle.Tie as tie
-use Rattle.exercise.proofs.calls.handle.Reads as reads
-use Rattle.exercise.proofs.calls.handle.Lts as lts
-use Rattle.driver.proofs.packet.Reads as packet-reads
-use Rattle.exercise.proofs.kept.least.Reads as least-reads
 
 array-read-least : tie.Need-array-read-least
 array-read-least c = search needs

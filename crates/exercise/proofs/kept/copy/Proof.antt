@@ -2,15 +2,11 @@
 -- Assumes nothing.
 use native.Mathlib.Omega.{arith}
 use borrow.Author.Needs.{needs}
-use Prim.Native.Nat.{_≤_, _-_}
+use Prim.Native.Nat.{_-_}
 use mathlib.Core.Path.{_≡_, refl}
 use lib.ListN.{length}
 use Rattle.exercise.proofs.kept.copy.Statement.{statement}
 use Rattle.exercise.proofs.kept.copy.Tie as tie
-use Rattle.exercise.proofs.kept.copy.Reads as reads
-use Rattle.exercise.proofs.kept.copy.Lts as lts
-use Rattle.exercise.proofs.kept.byte.Reads as byte-reads
-use Rattle.exercise.proofs.kept.put.Reads as put-reads
 
 abbrev Inv-loop : tie.InvT-loop
 Inv-loop from to₀ start end i₀ to i = length to ≡ length to₀

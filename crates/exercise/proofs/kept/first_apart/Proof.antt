@@ -3,13 +3,9 @@
 use native.Mathlib.Omega.{arith}
 use borrow.Author.Needs.{needs}
 use Prim.Native.Nat.{_≤_, _-_}
-use mathlib.Core.Path.{_≡_, refl}
 use lib.ListN.{length}
 use Rattle.exercise.proofs.kept.first_apart.Statement.{statement}
 use Rattle.exercise.proofs.kept.first_apart.Tie as tie
-use Rattle.exercise.proofs.kept.first_apart.Reads as reads
-use Rattle.exercise.proofs.kept.first_apart.Lts as lts
-use Rattle.exercise.proofs.kept.byte.Reads as byte-reads
 
 abbrev Inv-loop : tie.InvT-loop
 Inv-loop a b i₀ i = i ≤ length a

@@ -5,9 +5,6 @@ use lib.Seq.{length-take-le}
 use borrow.Author.Needs.{needs}
 use Rattle.exercise.proofs.kept.first_mut.Statement.{statement}
 use Rattle.exercise.proofs.kept.first_mut.Tie as tie
-use Rattle.exercise.proofs.kept.first_mut.Reads as reads
-use Rattle.exercise.proofs.kept.first_mut.Lts as lts
-use Rattle.exercise.proofs.kept.least.Reads as least-reads
 
 least-requires : tie.Need-least-requires
 least-requires c κs = search needs

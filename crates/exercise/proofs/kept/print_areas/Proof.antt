@@ -7,9 +7,6 @@ use mathlib.Core.Path.{_≡_, refl}
 use lib.ListN.{length}
 use Rattle.exercise.proofs.kept.print_areas.Statement.{statement}
 use Rattle.exercise.proofs.kept.print_areas.Tie as tie
-use Rattle.exercise.proofs.kept.print_areas.Reads as reads
-use Rattle.exercise.proofs.kept.print_areas.Lts as lts
-use Rattle.exercise.proofs.kept.print_area.Reads as print-area-reads
 
 abbrev Inv-loop : tie.InvT-loop
 Inv-loop text₀ at areas end₀ i₀ text end i = (i ≤ 8) × (length text ≡ length text₀)

@@ -7,9 +7,6 @@ use mathlib.Core.Path.{_≡_, refl}
 use lib.ListN.{length}
 use Rattle.exercise.proofs.kept.print_places.Statement.{statement}
 use Rattle.exercise.proofs.kept.print_places.Tie as tie
-use Rattle.exercise.proofs.kept.print_places.Reads as reads
-use Rattle.exercise.proofs.kept.print_places.Lts as lts
-use Rattle.exercise.proofs.kept.print_place.Reads as print-place-reads
 
 abbrev Inv-loop : tie.InvT-loop
 Inv-loop text₀ at filters end₀ i₀ text end i = (i ≤ 32) × (length text ≡ length text₀)

@@ -7,9 +7,6 @@ use mathlib.Core.Path.{_≡_, refl}
 use lib.ListN.{length}
 use Rattle.exercise.proofs.kept.write.Statement.{statement}
 use Rattle.exercise.proofs.kept.write.Tie as tie
-use Rattle.exercise.proofs.kept.write.Reads as reads
-use Rattle.exercise.proofs.kept.write.Lts as lts
-use Rattle.exercise.proofs.kept.put.Reads as put-reads
 
 abbrev Inv-loop : tie.InvT-loop
 Inv-loop buffer₀ copy₀ from bytes i₀ buffer copy i = (i ≤ length bytes) × (length buffer ≡ length buffer₀) × (length copy ≡ length copy₀)

@@ -3,13 +3,9 @@
 use native.Mathlib.Omega.{arith}
 use borrow.Author.Needs.{needs}
 use Prim.Native.Nat.{_≤_, _-_}
-use mathlib.Core.Path.{_≡_, refl}
 use lib.ListN.{length}
 use Rattle.exercise.proofs.line.word_of.Statement.{statement}
 use Rattle.exercise.proofs.line.word_of.Tie as tie
-use Rattle.exercise.proofs.line.word_of.Reads as reads
-use Rattle.exercise.proofs.line.word_of.Lts as lts
-use Rattle.exercise.proofs.line.five_bits.Reads as five-bits-reads
 
 abbrev Inv-loop : tie.InvT-loop
 Inv-loop word w₀ i₀ w i = i ≤ length word

@@ -6,26 +6,19 @@ use Rattle.exercise.proofs.Signed.{turned-fits, turned-counts}
 use borrow.Author.Needs.{needs}
 use Rattle.exercise.proofs.print.below_zero.Statement.{statement}
 use Rattle.exercise.proofs.print.below_zero.Tie as tie
-use Rattle.exercise.proofs.print.below_zero.Reads as reads
-use Rattle.exercise.proofs.print.below_zero.Lts as lts
 
--- src/print.rt:27:9
 returns : tie.Need-returns
 returns c = search needs
 
--- src/print.rt:30:17
 sub-result : tie.Need-sub-result
 sub-result c = turned-fits (toZ w64 (ofZ w64 (c .before .before .args .n))) (c .before .if1 .left) (c .if2 .taken)
 
--- src/print.rt:30:16
 cast-result : tie.Need-cast-result
 cast-result c = turned-counts (toZ w64 (ofZ w64 (c .before .before .args .n))) (c .before .if1 .left) (c .if2 .taken)
 
--- src/print.rt:30:9
 returns-2 : tie.Need-returns-2
 returns-2 c = search needs
 
--- src/print.rt:25:1
 returns-3 : tie.Need-returns-3
 returns-3 c = search needs
 

@@ -7,10 +7,6 @@ use mathlib.Core.Path.{_≡_, refl}
 use lib.ListN.{length}
 use Rattle.exercise.proofs.print.bytes.Statement.{statement}
 use Rattle.exercise.proofs.print.bytes.Tie as tie
-use Rattle.exercise.proofs.print.bytes.Reads as reads
-use Rattle.exercise.proofs.print.bytes.Lts as lts
-use Rattle.exercise.proofs.print.hex.Reads as hex-reads
-use Rattle.exercise.proofs.print.word.Reads as word-reads
 
 abbrev Inv-loop : tie.InvT-loop
 Inv-loop text₀ at bytes end₀ i₀ text end i = (i ≤ length bytes) × (length text ≡ length text₀)

@@ -3,13 +3,9 @@
 use native.Mathlib.Omega.{arith}
 use borrow.Author.Needs.{needs}
 use Prim.Native.Nat.{_≤_, _-_}
-use mathlib.Core.Path.{_≡_, refl}
 use lib.ListN.{length}
 use Rattle.exercise.proofs.print.digest.Statement.{statement}
 use Rattle.exercise.proofs.print.digest.Tie as tie
-use Rattle.exercise.proofs.print.digest.Reads as reads
-use Rattle.exercise.proofs.print.digest.Lts as lts
-use Rattle.exercise.proofs.print.digested.Reads as digested-reads
 
 abbrev Inv-loop : tie.InvT-loop
 Inv-loop bytes d₀ i₀ d i = i ≤ length bytes

@@ -7,9 +7,6 @@ use mathlib.Core.Path.{_≡_, refl}
 use lib.ListN.{length}
 use Rattle.exercise.proofs.print.numbers.Statement.{statement}
 use Rattle.exercise.proofs.print.numbers.Tie as tie
-use Rattle.exercise.proofs.print.numbers.Reads as reads
-use Rattle.exercise.proofs.print.numbers.Lts as lts
-use Rattle.exercise.proofs.print.number.Reads as number-reads
 
 abbrev Inv-loop : tie.InvT-loop
 Inv-loop text₀ at numbers end₀ i₀ text end i = (i ≤ length numbers) × (length text ≡ length text₀)

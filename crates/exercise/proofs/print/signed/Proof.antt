@@ -9,53 +9,37 @@ use mir.ValLaws.{toZ-ofZ}
 use borrow.Author.Needs.{needs}
 use Rattle.exercise.proofs.print.signed.Statement.{statement}
 use Rattle.exercise.proofs.print.signed.Tie as tie
-use Rattle.exercise.proofs.print.signed.Reads as reads
-use Rattle.exercise.proofs.print.signed.Lts as lts
-use Rattle.exercise.proofs.print.below_zero.Reads as below-zero-reads
-use Rattle.exercise.proofs.print.number.Reads as number-reads
-use Rattle.exercise.proofs.print.word.Reads as word-reads
-use Rattle.text.proofs.decimal.Reads as decimal-reads
 
--- src/print.rt:18:34
 slice-aggregate-word : tie.Need-slice-aggregate-word
 slice-aggregate-word c = search needs
 
--- src/print.rt:18:13
 word-requires : tie.Need-word-requires
 word-requires c κs = search needs
 
--- src/print.rt:19:41
 below-zero-requires : tie.Need-below-zero-requires
 below-zero-requires c κs = search needs
 
--- src/print.rt:19:9
 decimal-requires : tie.Need-decimal-requires
 decimal-requires c κs = search needs
 
--- src/print.rt:19:9
 same-length : tie.Need-same-length
 same-length c = search needs
 
--- src/print.rt:19:9
 returns : tie.Need-returns
 returns c = search needs
 
--- src/print.rt:21:22
 cast-number : tie.Need-cast-number
 cast-number c =
     let fits = c .before .before .before .fits .n in
     let same = toZ-ofZ w64 (c .before .before .before .args .n) fits in
     rw same (counts (c .before .before .before .args .n) fits (ap (λ (z : ℤ). ltZ z (pos 0)) (sym same) ∙ c .before .if1 .left))
 
--- src/print.rt:21:5
 number-requires : tie.Need-number-requires
 number-requires c κs = search needs
 
--- src/print.rt:16:1
 same-length-2 : tie.Need-same-length-2
 same-length-2 c = search needs
 
--- src/print.rt:16:1
 returns-2 : tie.Need-returns-2
 returns-2 c = search needs
 

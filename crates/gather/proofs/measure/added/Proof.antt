@@ -3,8 +3,8 @@
 use denote.Ref.{now}
 use Rattle.gather.proofs.Sized.{sizes-none, sizes-kind, sizes-part, sizes-whole}
 use Rattle.gather.proofs.Parts.{length-part}
-use Rattle.gather.specs.Memory.{bytesAt}
-use Rattle.gather.specs.declared.section.Kind.the-variants.{Nothing, Overlong}
+use Rattle.gather.specs.Memory.{stretch}
+use Rattle.gather.specs.declared.kind.Kind.the-variants.{Nothing, Overlong}
 use mathlib.Core.Path.{sym, _∙_}
 use borrow.Author.Needs.{needs}
 use Rattle.gather.proofs.measure.added.Statement.{statement}
@@ -15,7 +15,7 @@ new-requires c κs = search needs
 
 returns : tie.Need-returns
 returns c = let a = c .before .before .before .before .args in
-    let n = bytesAt (a .count) (now (a .payload)) (a .from) in
+    let n = stretch (a .count) (now (a .payload)) (a .from) in
     c .new .ensures ∙ sizes-none (a .held) (now (a .store)) (a .base) n (c .before .before .before .before .pre .0) (c .before .if1 .taken)
 
 joined-kind-requires : tie.Need-joined-kind-requires
@@ -50,23 +50,23 @@ new-requires-5 c κs = search needs
 
 returns-2 : tie.Need-returns-2
 returns-2 c = let a = c .before .before .before .before .before .before .before .args in
-    let n = bytesAt (a .count) (now (a .payload)) (a .from) in
+    let n = stretch (a .count) (now (a .payload)) (a .from) in
     c .new2 .ensures ∙ sizes-kind (a .held) (now (a .store)) (a .base) n (c .before .before .before .before .before .before .before .pre .0) (c .before .before .before .before .if1 .left) Nothing (sym (c .before .enum-told .given .1) ∙ c .before .before .before .joined-kind .ensures)
 
 returns-3 : tie.Need-returns-3
 returns-3 c = let a = c .before .before .before .before .before .before .before .args in
-    let n = bytesAt (a .count) (now (a .payload)) (a .from) in
+    let n = stretch (a .count) (now (a .payload)) (a .from) in
     c .new3 .ensures
     ∙ sizes-part (a .held) (now (a .store)) (a .base) n (c .before .before .before .before .before .before .before .pre .0) (c .before .before .before .before .if1 .left) (a .count) (length-part (a .count) (now (a .payload)) (a .from) (c .before .before .before .before .before .before .before .pre .1)) (sym (c .before .enum-told2 .given .1) ∙ c .before .before .before .joined-kind .ensures)
 
 returns-4 : tie.Need-returns-4
 returns-4 c = let a = c .before .before .before .before .before .before .before .args in
-    let n = bytesAt (a .count) (now (a .payload)) (a .from) in
+    let n = stretch (a .count) (now (a .payload)) (a .from) in
     c .new4 .ensures ∙ sizes-kind (a .held) (now (a .store)) (a .base) n (c .before .before .before .before .before .before .before .pre .0) (c .before .before .before .before .if1 .left) Overlong (sym (c .before .enum-told3 .given .1) ∙ c .before .before .before .joined-kind .ensures)
 
 returns-5 : tie.Need-returns-5
 returns-5 c = let a = c .before .before .before .before .before .before .before .before .args in
-    let n = bytesAt (a .count) (now (a .payload)) (a .from) in
+    let n = stretch (a .count) (now (a .payload)) (a .from) in
     c .new5 .ensures ∙ sizes-whole (a .held) (now (a .store)) (a .base) n (c .before .before .before .before .before .before .before .before .pre .0) (c .before .before .before .before .before .if1 .left) (c .before .before .kind .given .0 .0) (sym (c .before .before .kind .given .1) ∙ c .before .before .before .before .joined-kind .ensures)
 
 pub added-spec : {M : Type 1} → statement M

@@ -3,7 +3,7 @@
 use Prim.Native.Nat.{_-_}
 use denote.Ref.{now}
 use Rattle.gather.proofs.Parts.{length-part, part-byte, part-past, byte-after}
-use Rattle.gather.specs.Memory.{bytesAt}
+use Rattle.gather.specs.Memory.{stretch}
 use lib.ListN.{List·getD-append}
 use mathlib.Core.Path.{sym, _∙_}
 use borrow.Author.Needs.{needs}
@@ -18,7 +18,7 @@ shared-slice-read-result c = search needs
 
 returns : tie.Need-returns
 returns c = let a = c .before .before .args in
-    sym (List·getD-append (bytesAt (a .held) (now (a .store)) (a .base)) (bytesAt (a .count) (now (a .payload)) (a .from)) 0 (a .i)
+    sym (List·getD-append (stretch (a .held) (now (a .store)) (a .base)) (stretch (a .count) (now (a .payload)) (a .from)) 0 (a .i)
     (rw (length-part (a .held) (now (a .store)) (a .base) (c .before .before .pre .0)) (search needs))
     ∙ part-byte (a .held) (now (a .store)) (a .base) (a .i) (search needs))
 
@@ -30,13 +30,13 @@ shared-slice-read-result-2 c = search needs
 
 returns-2 : tie.Need-returns-2
 returns-2 c = let a = c .before .before .before .args in
-    sym (byte-after (bytesAt (a .held) (now (a .store)) (a .base)) (bytesAt (a .count) (now (a .payload)) (a .from)) (a .held) (a .i)
+    sym (byte-after (stretch (a .held) (now (a .store)) (a .base)) (stretch (a .count) (now (a .payload)) (a .from)) (a .held) (a .i)
     (length-part (a .held) (now (a .store)) (a .base) (c .before .before .before .pre .0)) (search needs)
     ∙ part-byte (a .count) (now (a .payload)) (a .from) (a .i - a .held) (search needs))
 
 returns-3 : tie.Need-returns-3
 returns-3 c = let a = c .before .before .args in
-    sym (byte-after (bytesAt (a .held) (now (a .store)) (a .base)) (bytesAt (a .count) (now (a .payload)) (a .from)) (a .held) (a .i)
+    sym (byte-after (stretch (a .held) (now (a .store)) (a .base)) (stretch (a .count) (now (a .payload)) (a .from)) (a .held) (a .i)
     (length-part (a .held) (now (a .store)) (a .base) (c .before .before .pre .0)) (search needs)
     ∙ part-past (a .count) (now (a .payload)) (a .from) (a .i - a .held) (c .before .before .pre .1) (search needs))
 

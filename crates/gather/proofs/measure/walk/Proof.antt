@@ -5,8 +5,8 @@ use Rattle.gather.proofs.Sized.{grown, ends-nothing, ends-part, ends-ov
 use Rattle.gather.proofs.Classes.{WholeFits, whole-fits}
 use Rattle.gather.specs.Steps.{sizesOf}
 use Rattle.gather.specs.Rule.{walk}
-use Rattle.gather.specs.Section.{classify, join}
-use Rattle.gather.specs.declared.section.Kind.the-variants.{Whole}
+use Rattle.gather.specs.Kind.{classify, join}
+use Rattle.gather.specs.declared.kind.Kind.the-variants.{Whole}
 use lib.ListN.{length, drop, length-drop}
 use native.Mathlib.Nat.{add-assoc, add-zero, zero-add}
 use Prim.Native.Nat.{_+_, _-_, _≤_}

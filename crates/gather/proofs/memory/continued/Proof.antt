@@ -3,7 +3,7 @@
 use denote.Ref.{now}
 use Rattle.gather.proofs.Carrying.{added-fits, continued-carried}
 use Rattle.gather.proofs.Parts.{length-part}
-use Rattle.gather.specs.Memory.{bytesAt}
+use Rattle.gather.specs.Memory.{stretch}
 use Rattle.gather.specs.Steps.{carriedAs}
 use Rattle.rules.specs.Write.{put}
 use lib.Seq.{take-length}
@@ -22,7 +22,7 @@ added-requires c κs = search needs
 finish-requires : tie.Need-finish-requires
 finish-requires c κs = let a = c .before .before .before .before .before .before .before .args in
     let z = c .before .before .added .result in
-    let fit = added-fits (bytesAt (a .held) (now (a .store)) (a .base)) (bytesAt (length (now (a .payload))) (now (a .payload)) 0) (a .held) (length (now (a .payload))) z
+    let fit = added-fits (stretch (a .held) (now (a .store)) (a .base)) (stretch (length (now (a .payload))) (now (a .payload)) 0) (a .held) (length (now (a .payload))) z
     (length-part (a .held) (now (a .store)) (a .base) (omega arith)) (ap length (take-length (now (a .payload)))) (c .before .before .added .ensures) in
     omega (arith, fit, c .before .before .before .before .before .before .before .pre)
 
@@ -35,7 +35,7 @@ less-requires c κs = search needs
 copy-requires : tie.Need-copy-requires
 copy-requires c κs = let a = c .before .before .before .before .before .before .before .before .before .before .before .before .args in
     let z = c .before .before .before .before .before .before .before .added .result in
-    let fit = added-fits (bytesAt (a .held) (now (a .store)) (a .base)) (bytesAt (length (now (a .payload))) (now (a .payload)) 0) (a .held) (length (now (a .payload))) z
+    let fit = added-fits (stretch (a .held) (now (a .store)) (a .base)) (stretch (length (now (a .payload))) (now (a .payload)) 0) (a .held) (length (now (a .payload))) z
     (length-part (a .held) (now (a .store)) (a .base) (omega arith)) (ap length (take-length (now (a .payload)))) (c .before .before .before .before .before .before .before .added .ensures) in
     omega (arith, fit, c .before .before .before .before .before .before .before .before .before .before .before .before .pre, c .less .ensures)
 
@@ -49,7 +49,7 @@ returns : tie.Need-returns
 returns c = let a = c .before .before .before .before .before .before .before .before .before .before .before .before .before .before .before .args in
     let z = c .before .before .before .before .before .before .before .before .before .before .added .result in
     ap₂ (λ (s o : List ℕ). carriedAs z s o)
-    (c .before .before .copy .ensures ∙ ap (λ (k : ℕ). put (now (a .store)) (a .base + a .held) (bytesAt k (now (a .payload)) 0)) (c .before .before .before .less .ensures))
+    (c .before .before .copy .ensures ∙ ap (λ (k : ℕ). put (now (a .store)) (a .base + a .held) (stretch k (now (a .payload)) 0)) (c .before .before .before .less .ensures))
     (c .before .before .before .before .before .before .before .finish .ensures)
     ∙ continued-carried (a .held) (now (a .payload)) (now (a .store)) (a .base) (now (a .out)) (c .before .before .before .before .before .before .before .before .before .before .before .before .before .before .before .pre) z (c .before .before .before .before .before .before .before .before .before .before .added .ensures)
 

@@ -3,7 +3,7 @@
 use mathlib.Core.List.{List}
 use Rattle.rules.proofs.Write.{put-nil, put-turn}
 use Rattle.gather.proofs.Parts.{length-part, part-byte}
-use Rattle.gather.specs.Memory.{bytesAt}
+use Rattle.gather.specs.Memory.{stretch}
 use lib.ListN.{length, take, length-set}
 use lib.Seq.{take-all}
 use native.Mathlib.Numerals.{add-one}
@@ -17,7 +17,7 @@ use Rattle.gather.proofs.memory.copy.Statement.{statement}
 use Rattle.gather.proofs.memory.copy.Tie as tie
 
 abbrev Inv-loop : tie.InvT-loop
-Inv-loop dst₀ at src from n i₀ dst i = (i ≤ n) × (length dst ≡ length dst₀) × (dst ≡ put dst₀ at (take i (bytesAt n src from)))
+Inv-loop dst₀ at src from n i₀ dst i = (i ≤ n) × (length dst ≡ length dst₀) × (dst ≡ put dst₀ at (take i (stretch n src from)))
 
 abbrev μ-loop : tie.MeasureT-loop
 μ-loop dst₀ at src from n i₀ dst i = n - i
@@ -46,13 +46,13 @@ loop-less c = omega arith
 loop-again : tie.Need-loop-again Inv-loop μ-loop
 loop-again c = let a = c .before .before .before .args in
     let l = c .before .before .loop in
-    let size : length (bytesAt (a .n) (now (a .src)) (a .from)) ≡ a .n = length-part (a .n) (now (a .src)) (a .from) (c .before .before .before .pre .1) in
+    let size : length (stretch (a .n) (now (a .src)) (a .from)) ≡ a .n = length-part (a .n) (now (a .src)) (a .from) (c .before .before .before .pre .1) in
     let same : length (l .dst) ≡ length (now (a .dst)) = l .inv .1 in
     let turn = c .before .loop-test .taken in (
       search needs,
       simp length-set same,
       rw (add-one (l .i), l .inv .2, ← part-byte (a .n) (now (a .src)) (a .from) (l .i) turn)
-          (put-turn (now (a .dst)) (a .at) (bytesAt (a .n) (now (a .src)) (a .from)) (l .i) 0 (omega arith) (omega arith)),
+          (put-turn (now (a .dst)) (a .at) (stretch (a .n) (now (a .src)) (a .from)) (l .i) 0 (omega arith) (omega arith)),
     )
 
 same-length : tie.Need-same-length Inv-loop μ-loop
@@ -61,8 +61,8 @@ same-length c = c .before .loop .inv .1
 returns : tie.Need-returns Inv-loop μ-loop
 returns c = let a = c .before .before .args in
     let l = c .before .loop in
-    let size : length (bytesAt (a .n) (now (a .src)) (a .from)) ≡ a .n = length-part (a .n) (now (a .src)) (a .from) (c .before .before .pre .1) in
-    l .inv .2 ∙ ap (λ (t : List ℕ). put (now (a .dst)) (a .at) t) (take-all (l .i) (bytesAt (a .n) (now (a .src)) (a .from)) (omega arith))
+    let size : length (stretch (a .n) (now (a .src)) (a .from)) ≡ a .n = length-part (a .n) (now (a .src)) (a .from) (c .before .before .pre .1) in
+    l .inv .2 ∙ ap (λ (t : List ℕ). put (now (a .dst)) (a .at) t) (take-all (l .i) (stretch (a .n) (now (a .src)) (a .from)) (omega arith))
 
 pub copy-spec : {M : Type 1} → statement M
 copy-spec =

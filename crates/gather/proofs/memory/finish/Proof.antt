@@ -2,7 +2,7 @@
 -- Assumes nothing.
 use denote.Ref.{now}
 use Rattle.gather.proofs.Carrying.{finish-put}
-use Rattle.gather.specs.Memory.{bytesAt}
+use Rattle.gather.specs.Memory.{stretch}
 use Rattle.rules.specs.Write.{put}
 use Prim.Native.Nat.{ℕ, _-_}
 use mathlib.Core.List.{List}
@@ -30,7 +30,7 @@ returns : tie.Need-returns
 returns c = let a = c .before .before .before .before .before .before .before .before .before .before .before .before .args in
     let first = c .before .before .before .before .before .before .before .before .least .result in
     c .before .before .copy2 .ensures
-    ∙ ap (λ (l : List ℕ). put l first (bytesAt (a .bytes - first) (now (a .payload)) (a .from))) (c .before .before .before .before .before .before .copy .ensures)
+    ∙ ap (λ (l : List ℕ). put l first (stretch (a .bytes - first) (now (a .payload)) (a .from))) (c .before .before .before .before .before .before .copy .ensures)
     ∙ finish-put (now (a .out)) (now (a .store)) (now (a .payload)) (a .base) (a .held) (a .from) (a .bytes) first
     (c .before .before .before .before .before .before .before .before .before .before .before .before .pre .0) (c .before .before .before .before .before .before .before .before .before .before .before .before .pre .1) (c .before .before .before .before .before .before .before .before .before .before .before .before .pre .2) (c .before .before .before .before .before .before .before .before .least .ensures)
 

@@ -3,7 +3,7 @@
 use denote.Ref.{now}
 use Rattle.gather.proofs.Carrying.{AddedFits, added-fits, WalkedFits, walked-fits, unfinished-le, started-carried}
 use Rattle.gather.proofs.Parts.{length-part}
-use Rattle.gather.specs.Memory.{bytesAt}
+use Rattle.gather.specs.Memory.{stretch}
 use Rattle.gather.specs.Steps.{carriedAs}
 use Rattle.gather.specs.declared.measure.Sizes.{Sizes}
 use Rattle.rules.specs.Write.{put}
@@ -21,7 +21,7 @@ first-fits : (c : tie.After-added) → AddedFits (c .before .before .before .bef
 first-fits c =
     let a = c .before .before .before .before .before .before .before .args in
     let from = c .before .before .least .result in
-    added-fits (bytesAt (a .held) (now (a .store)) (a .base)) (bytesAt (from - 1) (now (a .payload)) 1) (a .held) (from - 1) (c .added .result)
+    added-fits (stretch (a .held) (now (a .store)) (a .base)) (stretch (from - 1) (now (a .payload)) 1) (a .held) (from - 1) (c .added .result)
     (length-part (a .held) (now (a .store)) (a .base) (omega (arith, c .before .before .before .before .before .before .before .pre)))
     (length-part (from - 1) (now (a .payload)) 1 (omega (arith, c .before .before .before .before .before .before .before .pre, c .before .before .least .ensures)))
     (c .added .ensures)
@@ -95,7 +95,7 @@ returns c = let a = c .before .before .before .before .before .before .before .b
     let z : Sizes = record { sections = x .sections + y .sections; bytes = x .bytes + y .bytes; held = y .held; «given_up» = x .«given_up» + u + y .«given_up» } in
     ap₂ (λ (s o : List ℕ). carriedAs z s o)
     (c .before .before .before .before .before .before .before .before .before .copy2 .ensures)
-    (c .before .before .before .before .before .before .before .before .before .before .before .before .before .before .copy .ensures ∙ ap (λ (o : List ℕ). put o (x .bytes) (bytesAt (y .bytes) (now (a .payload)) from)) (c .before .before .before .before .before .before .before .before .before .before .before .before .before .before .before .before .before .before .finish .ensures))
+    (c .before .before .before .before .before .before .before .before .before .before .before .before .before .before .copy .ensures ∙ ap (λ (o : List ℕ). put o (x .bytes) (stretch (y .bytes) (now (a .payload)) from)) (c .before .before .before .before .before .before .before .before .before .before .before .before .before .before .before .before .before .before .finish .ensures))
     ∙ started-carried (a .held) (now (a .payload)) (now (a .store)) (a .base) (now (a .out)) (c .before .before .before .before .before .before .before .before .before .before .before .before .before .before .before .before .before .before .before .before .before .before .before .before .before .before .before .before .before .pre .0) (c .before .before .before .before .before .before .before .before .before .before .before .before .before .before .before .before .before .before .before .before .before .before .before .before .before .before .before .before .before .pre .1) from (c .before .before .before .before .before .before .before .before .before .before .before .before .before .before .before .before .before .before .before .before .before .before .before .before .least .ensures)
     x y u (c .before .before .before .before .before .before .before .before .before .before .before .before .before .before .before .before .before .before .before .before .before .before .added .ensures) (c .before .before .before .before .before .before .before .before .before .before .before .before .before .before .before .before .before .before .before .before .before .walk .ensures) (c .before .before .unfinished .ensures)
 

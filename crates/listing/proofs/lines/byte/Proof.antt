@@ -1,16 +1,12 @@
 -- A byte of the rest is a byte of the whole, and past the end there is none.
 -- Assumes nothing.
-use mathlib.Core.Path.{sym, _∙_}
-use Prim.Native.Nat.{_+_}
+use mathlib.Core.Path.{sym}
 use native.Mathlib.Omega.{arith}
-use lib.ListN.{length-drop}
 use lib.Seq.{getD-drop}
 use Rattle.listing.proofs.Bytes.{past}
 use borrow.Author.Needs.{needs}
 use Rattle.listing.proofs.lines.byte.Statement.{statement}
 use Rattle.listing.proofs.lines.byte.Tie as tie
-use Rattle.listing.proofs.lines.byte.Reads as reads
-use Rattle.listing.proofs.lines.byte.Lts as lts
 
 sub-if2 : tie.Need-sub-if2
 sub-if2 c = search needs

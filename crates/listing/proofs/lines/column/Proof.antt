@@ -1,17 +1,10 @@
 -- A tab, and the column behind it.
 -- Assumes nothing.
-use mathlib.Core.Path.{_∙_, ap, sym}
-use Prim.Native.Nat.{ℕ}
-use mathlib.Core.List.{List, [], _∷_}
+use mathlib.Core.Path.{_∙_, ap}
 use Rattle.text.specs.Text.{Text, withByte, withBytes, decimalOf}
-use Rattle.listing.specs.Lines.{cellOf}
 use borrow.Author.Needs.{needs}
 use Rattle.listing.proofs.lines.column.Statement.{statement}
 use Rattle.listing.proofs.lines.column.Tie as tie
-use Rattle.listing.proofs.lines.column.Reads as reads
-use Rattle.listing.proofs.lines.column.Lts as lts
-use Rattle.text.proofs.byte.Reads as byte-reads
-use Rattle.text.proofs.decimal.Reads as decimal-reads
 
 byte-requires : tie.Need-byte-requires
 byte-requires c κs = search needs

@@ -7,12 +7,6 @@ use Rattle.listing.specs.Lines.{cellOf}
 use borrow.Author.Needs.{needs}
 use Rattle.listing.proofs.lines.line.Statement.{statement}
 use Rattle.listing.proofs.lines.line.Tie as tie
-use Rattle.listing.proofs.lines.line.Reads as reads
-use Rattle.listing.proofs.lines.line.Lts as lts
-use Rattle.listing.proofs.lines.column.Reads as column-reads
-use Rattle.text.proofs.byte.Reads as byte-reads
-use Rattle.text.proofs.decimal.Reads as decimal-reads
-use Rattle.text.proofs.word.Reads as word-reads
 
 decimal-requires : tie.Need-decimal-requires
 decimal-requires c κs = search needs

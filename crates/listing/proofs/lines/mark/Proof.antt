@@ -4,9 +4,6 @@ use mathlib.Core.Path.{refl}
 use borrow.Author.Needs.{needs}
 use Rattle.listing.proofs.lines.mark.Statement.{statement}
 use Rattle.listing.proofs.lines.mark.Tie as tie
-use Rattle.listing.proofs.lines.mark.Reads as reads
-use Rattle.listing.proofs.lines.mark.Lts as lts
-use Rattle.listing.proofs.lines.line.Reads as line-reads
 
 line-requires : tie.Need-line-requires
 line-requires c κs = search needs

@@ -4,14 +4,11 @@ use mathlib.Core.List.{_++_}
 use lib.Dec.{ltb}
 use Rattle.text.specs.Text.{upTo}
 use Rattle.text.proofs.Laws.{next}
-use Rattle.listing.specs.Lines.{markOf, jump, repeat, cut}
+use Rattle.listing.specs.Lines.{markOf, jumpWord, repeatWord, cutWord}
 use Rattle.listing.specs.declared.lines.Cell.the-variants.{Number, Dash}
 use borrow.Author.Needs.{needs}
 use Rattle.listing.proofs.lines.marks.Statement.{statement}
 use Rattle.listing.proofs.lines.marks.Tie as tie
-use Rattle.listing.proofs.lines.marks.Reads as reads
-use Rattle.listing.proofs.lines.marks.Lts as lts
-use Rattle.listing.proofs.lines.mark.Reads as mark-reads
 
 cast-t11 : tie.Need-cast-t11
 cast-t11 c = search needs
@@ -42,9 +39,9 @@ returns c =
     let a = c .before .before .before .before .before .before .before .before .before .before .before .before .before .before .before .before .before .before .args in
     let m = c .before .before .before .before .before .before .before .before .before .before .before .before .before .mark in
     let report = a .report in
-    let second = markOf (a .index) (a .pid) repeat (report .repeat) Dash in
-    let third = markOf (a .index) (a .pid) cut (ltb 0 (report .«given_up»)) (Number (report .«given_up»)) in
-    next (upTo (a .text .now) (a .at)) (markOf (a .index) (a .pid) jump (report .jump) Dash) (second ++ third) (m .ensures)
+    let second = markOf (a .index) (a .pid) repeatWord (report .repeat) Dash in
+    let third = markOf (a .index) (a .pid) cutWord (ltb 0 (report .«given_up»)) (Number (report .«given_up»)) in
+    next (upTo (a .text .now) (a .at)) (markOf (a .index) (a .pid) jumpWord (report .jump) Dash) (second ++ third) (m .ensures)
     (next (upTo (m .last .0) (m .result)) second third (c .before .before .before .before .before .before .before .before .mark2 .ensures) (c .before .before .mark3 .ensures))
 
 pub marks-spec : {M : Type 1} → statement M

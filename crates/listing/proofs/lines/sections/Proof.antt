@@ -10,12 +10,6 @@ use Rattle.listing.specs.Lines.{sectionsOf}
 use Rattle.listing.proofs.Sections.{turn}
 use Rattle.listing.proofs.lines.sections.Statement.{statement}
 use Rattle.listing.proofs.lines.sections.Tie as tie
-use Rattle.listing.proofs.lines.sections.Reads as reads
-use Rattle.listing.proofs.lines.sections.Lts as lts
-use Rattle.listing.proofs.lines.byte.Reads as byte-reads
-use Rattle.listing.proofs.lines.further.Reads as further-reads
-use Rattle.listing.proofs.lines.section.Reads as section-reads
-use Rattle.listing.proofs.lines.section_size.Reads as section-size-reads
 
 abbrev Inv-loop : tie.InvT-loop
 Inv-loop text₀ at index pid count out end₀ place₀ left₀ text end place left =

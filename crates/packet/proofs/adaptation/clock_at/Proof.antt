@@ -4,8 +4,8 @@ use mathlib.Core.Path.{_≡_, ap, sym, _∙_}
 use borrow.Author.Tests.{not-true, not-false}
 use denote.Ref.{now}
 use Rattle.clock.specs.declared.reference.Reading.{Reading}
-use Rattle.clock.specs.Reference.{told}
-use Rattle.packet.specs.Perhaps.{there}
+use Rattle.clock.specs.Reference.{toldReference}
+use Rattle.rules.specs.Perhaps.{there}
 use Rattle.packet.specs.Steps.{readClock}
 use Rattle.rules.proofs.Judged.{mapped}
 use Rattle.packet.proofs.Clock.{clock-there}
@@ -15,11 +15,11 @@ use Rattle.packet.proofs.adaptation.clock_at.Tie as tie
 
 -- where the lone field is read, what it makes of the answer
 reads : (c : tie.After-read) (r : Reading) → c .read .result ≡ r
-    → mapped there (told r) ≡ readClock (now (c .before .before .before .before .args .bytes)) (c .before .before .before .before .args .place) (c .before .before .before .before .args .flagged)
+    → mapped there (toldReference r) ≡ readClock (now (c .before .before .before .before .args .bytes)) (c .before .before .before .before .args .place) (c .before .before .before .before .args .flagged)
 reads c r e =
     let a = c .before .before .before .before .args in
     rw (not-false (a .flagged) (c .before .before .if1 .left))
-    (ap (mapped there) (ap told (sym e) ∙ c .read .ensures) ∙ sym (clock-there (now (a .bytes)) (a .place) (search needs)))
+    (ap (mapped there) (ap toldReference (sym e) ∙ c .read .ensures) ∙ sym (clock-there (now (a .bytes)) (a .place) (search needs)))
 
 returns : tie.Need-returns
 returns c = rw (not-true (c .before .before .args .flagged) (c .if1 .taken))

@@ -4,7 +4,7 @@ use mathlib.Core.Path.{_≡_, refl, ap, sym, _∙_}
 use Prim.Native.Nat.{_+_, _<_, _≤_}
 use borrow.Author.Tests.{lt-ltb, le-ltb}
 use denote.Ref.{now}
-use Rattle.packet.specs.Perhaps.{there}
+use Rattle.rules.specs.Perhaps.{there}
 use Rattle.packet.specs.Adaptation.{lengthOf, fieldsEnd, flaggedField}
 use Rattle.packet.specs.Steps.{toldClocked, readFlagged}
 use Rattle.packet.specs.declared.adaptation.Clocked.{Clocked}

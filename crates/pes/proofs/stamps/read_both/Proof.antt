@@ -4,7 +4,7 @@ use mathlib.Core.Path.{_≡_, refl, ap, ap₂, sym, _∙_}
 use mathlib.Core.List.{[], _∷_}
 use denote.Ref.{now}
 use Rattle.clock.specs.declared.stamp.Reading.{Reading}
-use Rattle.clock.specs.Stamp.{told}
+use Rattle.clock.specs.Stamp.{toldStamp}
 use Rattle.pes.specs.Stamps.{both, stampRefusal, stampAt}
 use Rattle.pes.specs.Steps.{readStamps}
 use Rattle.rules.proofs.Judged.{joined, judge-joined}
@@ -14,12 +14,12 @@ use Rattle.pes.proofs.stamps.read_both.Statement.{statement}
 use Rattle.pes.proofs.stamps.read_both.Tie as tie
 
 -- where both stamps are read, what they make of the answer
-reads : (c : tie.After-read2) (p d : Reading) → c .before .before .read .result ≡ p → c .read2 .result ≡ d → joined both (told p) (told d) ≡ readStamps (now (c .before .before .before .before .before .args .bytes)) 3
+reads : (c : tie.After-read2) (p d : Reading) → c .before .before .read .result ≡ p → c .read2 .result ≡ d → joined both (toldStamp p) (toldStamp d) ≡ readStamps (now (c .before .before .before .before .before .args .bytes)) 3
 reads c p d e f =
     let s = now (c .before .before .before .before .before .args .bytes) in
     ap₂ (joined both)
-    (ap told (sym e) ∙ c .before .before .read .ensures ∙ stamp-part s 9 3 refl (search needs))
-    (ap told (sym f) ∙ c .read2 .ensures ∙ stamp-part s 14 1 refl (search needs))
+    (ap toldStamp (sym e) ∙ c .before .before .read .ensures ∙ stamp-part s 9 3 refl (search needs))
+    (ap toldStamp (sym f) ∙ c .read2 .ensures ∙ stamp-part s 14 1 refl (search needs))
     ∙ judge-joined both (stampRefusal s 9 3 ∷ []) (stampRefusal s 14 1 ∷ []) (stampAt s 9) (stampAt s 14)
 
 sub-read : tie.Need-sub-read

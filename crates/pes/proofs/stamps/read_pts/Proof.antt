@@ -4,7 +4,7 @@ use mathlib.Core.Path.{_≡_, refl, ap, sym, _∙_}
 use mathlib.Core.List.{[], _∷_}
 use denote.Ref.{now}
 use Rattle.clock.specs.declared.stamp.Reading.{Reading}
-use Rattle.clock.specs.Stamp.{told}
+use Rattle.clock.specs.Stamp.{toldStamp}
 use Rattle.pes.specs.Stamps.{pts, stampRefusal, stampAt}
 use Rattle.pes.specs.Steps.{readStamps}
 use Rattle.rules.proofs.Judged.{mapped, judge-mapped}
@@ -14,10 +14,10 @@ use Rattle.pes.proofs.stamps.read_pts.Statement.{statement}
 use Rattle.pes.proofs.stamps.read_pts.Tie as tie
 
 -- where the stamp is read, what it makes of the answer
-reads : (c : tie.After-read) (r : Reading) → c .read .result ≡ r → mapped pts (told r) ≡ readStamps (now (c .before .before .before .args .bytes)) 2
+reads : (c : tie.After-read) (r : Reading) → c .read .result ≡ r → mapped pts (toldStamp r) ≡ readStamps (now (c .before .before .before .args .bytes)) 2
 reads c r e =
     let s = now (c .before .before .before .args .bytes) in
-    ap (mapped pts) (ap told (sym e) ∙ c .read .ensures ∙ stamp-part s 9 2 refl (search needs))
+    ap (mapped pts) (ap toldStamp (sym e) ∙ c .read .ensures ∙ stamp-part s 9 2 refl (search needs))
     ∙ sym (judge-mapped pts (stampRefusal s 9 2 ∷ []) (stampAt s 9))
 
 sub-read : tie.Need-sub-read

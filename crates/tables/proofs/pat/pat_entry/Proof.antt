@@ -1,23 +1,42 @@
--- `tables::pat::pat_entry` meets its contract: the verdict is carried on, and an entry stands four bytes after the one before it.
+-- The verdict is carried on, and an entry stands four bytes after the one before it.
 -- Assumes nothing.
-use mathlib.Core.Path.{_≡_, sym, _∙_, ap, ap₂}
-use mathlib.Core.List.{[], _∷_}
-use Prim.Native.Nat.{ℕ, _-_, _/_, _%_, _<_}
+use mathlib.Core.Path.{_≡_, refl, sym, _∙_, ap, ap₂}
+use mathlib.Core.List.{[]}
+use Prim.Native.Nat.{ℕ, _-_, _/_, _%_, _≤_, _<_}
 use native.Mathlib.Omega.{arith}
-use lib.Dec.{leb}
 use lib.ListN.{length, getD}
-use Rattle.rules.specs.Refusal.{judge, _when_}
-use Rattle.tables.specs.Pat.{patOf, patRefusals, noAssociation}
-use Rattle.tables.specs.declared.section.Judged.{Judged}
-use Rattle.tables.specs.declared.pat.PatEntry.{PatEntry}
-use Rattle.rules.proofs.Refusal.{no≤}
-use Rattle.tables.proofs.Above.{all-tests}
+use Rattle.rules.specs.Answer.{Answer, refused, given}
+use Rattle.rules.specs.Refusal.{judge}
+use Rattle.rules.proofs.Refusal.{yes≤, no≤}
+use Rattle.tables.specs.Answers.{Association}
+use Rattle.tables.specs.Pat.{patOf, patRefusals, associationOf, patMissing, patEntryOf}
+use Rattle.tables.specs.Steps.Judging.{toldJudged, verdictOf}
 use Rattle.tables.proofs.Carried.{goes-on, stays-refused}
-use Rattle.tables.proofs.Fine.{apart, same, pat-fine}
-use Rattle.tables.proofs.Programs.{pat-count, pat-nth}
+use Rattle.tables.proofs.Fine.{Passed, pat-fine}
+use Rattle.tables.proofs.Programs.{pat-count, pat-association}
 use borrow.Author.Needs.{needs}
 use Rattle.tables.proofs.pat.pat_entry.Statement.{statement}
 use Rattle.tables.proofs.pat.pat_entry.Tie as tie
+
+-- the section passes, so that the last row decides
+module _ (c : tie.After-enum-told) where
+  passes : verdictOf (patRefusals (c .before .before .before .before .args .section .now)) ≡ given tt
+  passes = sym (c .before .before .judge-pat .ensures) ∙ ap toldJudged (c .enum-told .given .1)
+
+  sized : Passed 9 (c .before .before .before .before .args .section .now)
+  sized = pat-fine _ passes
+
+  counted : length (patOf (c .before .before .before .before .args .section .now) .items) ≡ (length (c .before .before .before .before .args .section .now) - 12) / 4
+  counted = let p = sized in pat-count _ (omega arith)
+
+  last : {v : Answer Association}
+      → v ≡ judge refused (patMissing (c .before .before .before .before .args .section .now) (c .before .before .before .before .args .index))
+      (given (associationOf (getD (patOf (c .before .before .before .before .args .section .now) .items) (c .before .before .before .before .args .index) [])))
+      → v ≡ patEntryOf (c .before .before .before .before .args .section .now) (c .before .before .before .before .args .index)
+  last e =
+      let s = c .before .before .before .before .args .section .now in
+      let i = c .before .before .before .before .args .index in
+      e ∙ sym (goes-on tt (associationOf (getD (patOf s .items) i [])) (patRefusals s) tt passes (patMissing s i))
 
 judge-pat-requires : tie.Need-judge-pat-requires
 judge-pat-requires c κs = search needs
@@ -29,20 +48,14 @@ enum-told : tie.Need-enum-told
 enum-told c = search needs
 
 sub-if1 : tie.Need-sub-if1
-sub-if1 c =
-    let s = c .before .before .before .before .args .section .now in
-    let e = sym (c .before .before .judge-pat .ensures) ∙ c .enum-told .given .1 in
-    let p = pat-fine s e in
-    omega arith
+sub-if1 c = let p = sized c in omega arith
 
 returns : tie.Need-returns
 returns c =
     let s = c .before .before .before .before .before .args .section .now in
-    let e = sym (c .before .before .before .judge-pat .ensures) ∙ c .before .enum-told .given .1 in
-    let p = pat-fine s e in
-    let i = c .before .before .before .before .before .args .index in
-    let own : PatEntry.Refused 27 ≡ judge PatEntry.Refused ((27 when leb (length (patOf s .items)) i) ∷ []) (PatEntry.Entry (getD (patOf s .items) i noAssociation .own)) = rw (pat-count s (omega arith)) (search all-tests depth 20 fits 4000) in
-    own ∙ sym (goes-on Judged.Refused Judged.Fine apart PatEntry.Refused (PatEntry.Entry (getD (patOf s .items) i noAssociation .own)) (patRefusals s) ((27 when leb (length (patOf s .items)) i) ∷ []) e)
+    let n = counted (c .before) in
+    let missing : length (patOf s .items) ≤ c .before .before .before .before .before .args .index = omega arith in
+    last (c .before) (yes≤ _ _ _ _ missing refl)
 
 mul-at : tie.Need-mul-at
 mul-at c = search needs
@@ -81,21 +94,20 @@ returns-2 : tie.Need-returns-2
 returns-2 c =
     let s = c .before .before .before .before .before .args .section .now in
     let i = c .before .before .before .before .before .args .index in
-    let e = sym (c .before .before .before .judge-pat .ensures) ∙ c .before .verdict .given .1 in
-    sym (stays-refused Judged.Refused Judged.Fine apart PatEntry.Refused (PatEntry.Entry (getD (patOf s .items) i noAssociation .own)) (patRefusals s) same _ ((27 when leb (length (patOf s .items)) i) ∷ []) e)
+    let e = sym (c .before .before .before .judge-pat .ensures) ∙ ap toldJudged (c .before .verdict .given .1) in
+    sym (stays-refused tt (associationOf (getD (patOf s .items) i [])) (patRefusals s) _ e (patMissing s i))
 
 returns-3 : tie.Need-returns-3
 returns-3 c =
     let s = c .before .before .before .before .before .before .before .before .before .before .before .args .section .now in
-    let e = sym (c .before .before .before .before .before .before .before .before .before .judge-pat .ensures) ∙ c .before .before .before .before .before .before .before .enum-told .given .1 in
-    let p = pat-fine s e in
     let i = c .before .before .before .before .before .before .before .before .before .before .before .args .index in
-    let there : i < (length s - 12) / 4 = c .before .before .before .before .before .before .if1 .left in
-    let read : PatEntry.Entry (record { number = c .before .before .before .word .result; pid = c .word2 .result % 8192 }) ≡ (PatEntry.Entry (getD (patOf s .items) i noAssociation .own)) =
-    ap₂ (λ (n m : ℕ). PatEntry.Entry (record { number = n; pid = m % 8192 })) (c .before .before .before .word .ensures) (c .word2 .ensures)
-    ∙ ap PatEntry.Entry (sym (pat-nth s (omega arith) i there)) in
-    no≤ (length (patOf s .items)) i (PatEntry.Refused 27) (PatEntry.Entry (getD (patOf s .items) i noAssociation .own)) (omega (arith, pat-count s (omega arith))) read
-    ∙ sym (goes-on Judged.Refused Judged.Fine apart PatEntry.Refused (PatEntry.Entry (getD (patOf s .items) i noAssociation .own)) (patRefusals s) ((27 when leb (length (patOf s .items)) i) ∷ []) e)
+    let p = sized (c .before .before .before .before .before .before .before) in
+    let n = counted (c .before .before .before .before .before .before .before) in
+    let there : i < length (patOf s .items) = omega arith in
+    last (c .before .before .before .before .before .before .before)
+    (no≤ _ _ _ _ there
+    (ap₂ (λ (n m : ℕ). given (record { programNumber = n; pid = m % 8192 })) (c .before .before .before .word .ensures) (c .word2 .ensures)
+    ∙ sym (ap given (pat-association s (omega arith) i (c .before .before .before .before .before .before .if1 .left)))))
 
 pub pat-entry-spec : {M : Type 1} → statement M
 pat-entry-spec =

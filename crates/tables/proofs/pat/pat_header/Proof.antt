@@ -1,18 +1,26 @@
--- `tables::pat::pat_header` meets its contract: the verdict is carried on, and a PAT that passes has a quarter of its body's bytes as entries.
+-- The verdict is carried on, and a PAT that passes has a quarter of its body's bytes as entries.
 -- Assumes nothing.
-use mathlib.Core.Path.{sym, _∙_, ap₂}
+use mathlib.Core.Path.{_≡_, sym, _∙_, ap, ap₂}
+use Prim.Native.Nat.{ℕ}
 use native.Mathlib.Omega.{arith}
-use lib.ListN.{length}
-use Rattle.tables.specs.Section.{headOf}
-use Rattle.tables.specs.Pat.{patOf, patRefusals}
-use Rattle.tables.specs.declared.section.Judged.{Judged}
-use Rattle.tables.specs.declared.pat.PatHeader.{PatHeader}
+use Rattle.rules.specs.Answer.{given}
+use Rattle.tables.specs.Answers.{Heading}
+use Rattle.tables.specs.Pat.{patRefusals, patHeadingOf}
+use Rattle.tables.specs.Steps.Judging.{toldJudged, verdictOf}
 use Rattle.tables.proofs.Carried.{is-given, is-refused}
-use Rattle.tables.proofs.Fine.{apart, same, pat-fine}
+use Rattle.tables.proofs.Fine.{Passed, pat-fine}
 use Rattle.tables.proofs.Programs.{pat-count}
 use borrow.Author.Needs.{needs}
 use Rattle.tables.proofs.pat.pat_header.Statement.{statement}
 use Rattle.tables.proofs.pat.pat_header.Tie as tie
+
+-- the section passes
+module _ (c : tie.After-enum-told) where
+  passes : verdictOf (patRefusals (c .before .before .before .before .args .section .now)) ≡ given tt
+  passes = sym (c .before .before .judge-pat .ensures) ∙ ap toldJudged (c .enum-told .given .1)
+
+  sized : Passed 9 (c .before .before .before .before .args .section .now)
+  sized = pat-fine _ passes
 
 judge-pat-requires : tie.Need-judge-pat-requires
 judge-pat-requires c κs = search needs
@@ -24,33 +32,23 @@ enum-told : tie.Need-enum-told
 enum-told c = search needs
 
 read-head-requires : tie.Need-read-head-requires
-read-head-requires c κs =
-    let s = c .before .before .before .before .args .section .now in
-    let e = sym (c .before .before .judge-pat .ensures) ∙ c .enum-told .given .1 in
-    let p = pat-fine s e in
-    omega arith
+read-head-requires c κs = let p = sized c in omega arith
 
 sub-t7 : tie.Need-sub-t7
-sub-t7 c =
-    let s = c .before .before .before .before .before .args .section .now in
-    let e = sym (c .before .before .before .judge-pat .ensures) ∙ c .before .enum-told .given .1 in
-    let p = pat-fine s e in
-    omega arith
+sub-t7 c = let p = sized (c .before) in omega arith
 
 returns : tie.Need-returns
 returns c =
     let s = c .before .before .before .before .before .args .section .now in
-    let e = sym (c .before .before .before .judge-pat .ensures) ∙ c .before .verdict .given .1 in
-    sym (is-refused Judged.Refused Judged.Fine apart PatHeader.Refused (PatHeader.Header (headOf s) (length (patOf s .items))) (patRefusals s) same _ e)
+    let e = sym (c .before .before .before .judge-pat .ensures) ∙ ap toldJudged (c .before .verdict .given .1) in
+    sym (is-refused tt (patHeadingOf s) (patRefusals s) _ e)
 
 returns-2 : tie.Need-returns-2
 returns-2 c =
     let s = c .before .before .before .before .before .args .section .now in
-    let e = sym (c .before .before .before .judge-pat .ensures) ∙ c .before .enum-told .given .1 in
-    let p = pat-fine s e in
-    let answer = PatHeader.Header (headOf s) (length (patOf s .items)) in
-    ap₂ PatHeader.Header (c .read-head .ensures) (sym (pat-count s (omega arith)))
-    ∙ sym (is-given Judged.Refused Judged.Fine apart PatHeader.Refused answer (patRefusals s) e)
+    let p = sized (c .before) in
+    ap₂ (λ (h : Heading) (n : ℕ). given (record { heading = h; entries = n })) (c .read-head .ensures) (sym (pat-count s (omega arith)))
+    ∙ sym (is-given tt (patHeadingOf s) (patRefusals s) tt (passes (c .before)))
 
 pub pat-header-spec : {M : Type 1} → statement M
 pat-header-spec =

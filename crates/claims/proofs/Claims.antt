@@ -1,0 +1,33 @@
+-- Each crate's claims are proved there.
+-- Assumes nothing.
+use Rattle.rules.proofs.Outcome.{stated}
+use Rattle.pid.proofs.Claims as pids
+use Rattle.section.proofs.Claims as lengths
+use Rattle.clock.proofs.Claims as times
+use Rattle.crc.proofs.Claims as checks
+use Rattle.packet.proofs.Claims as packets
+use Rattle.tables.proofs.Claims as sections
+use Rattle.pes.proofs.Claims as headers
+use Rattle.gather.proofs.Claims as gathering
+use Rattle.driver.proofs.Claims as filters
+use Rattle.text.proofs.Claims as texts
+use Rattle.runs.specs.Promises.{DemandThreeHolds}
+use Rattle.stars.specs.Stars.{EveryCase}
+use Rattle.claims.specs.Claims.{EveryClaim}
+
+pub every-claim : EveryClaim
+every-claim =
+    record {
+      pid = pids.claims;
+      section = lengths.claims;
+      clock = times.claims;
+      crc = checks.claims;
+      packet = packets.claims;
+      tables = sections.claims;
+      pes = headers.claims;
+      gather = gathering.claims;
+      driver = filters.claims;
+      text = texts.claims;
+      demandThree = stated DemandThreeHolds;
+      everyCase = stated EveryCase;
+    }

@@ -1,0 +1,39 @@
+-- The first and the second demand: every public call has one outcome, every table of refusals is exact, a refused call leaves everything as it was, and what the bytes say beyond the calls' promises.
+use Rattle.rules.specs.Outcome.{Determined, Stated}
+use Rattle.pid.specs.Claims as pids
+use Rattle.section.specs.Claims as lengths
+use Rattle.clock.specs.Claims as times
+use Rattle.crc.specs.Claims as checks
+use Rattle.packet.specs.Claims as packets
+use Rattle.tables.specs.Claims as sections
+use Rattle.pes.specs.Claims as headers
+use Rattle.gather.specs.Claims as gathering
+use Rattle.driver.specs.Claims as filters
+use Rattle.text.specs.Claims as texts
+use Rattle.runs.specs.Promises.{DemandThreeHolds}
+use Rattle.stars.specs.Stars.{EveryCase}
+
+pub record EveryClaim : Type 0 where
+  -- PIDs
+  pub pid : pids.Claims
+  -- section_length
+  pub section : lengths.Claims
+  -- stamps and clock references: read, written, read back, and their differences
+  pub clock : times.Claims
+  -- CRC_32
+  pub crc : checks.Claims
+  -- packets and their payload
+  pub packet : packets.Claims
+  -- PAT and PMT
+  pub tables : sections.Claims
+  -- PES headers
+  pub pes : headers.Claims
+  -- from payload to sections
+  pub gather : gathering.Claims
+  -- open, close and the packet call
+  pub driver : filters.Claims
+  -- the text that a program prints
+  pub text : texts.Claims
+  -- the functions that state something have one answer too
+  pub demandThree : Determined (Stated DemandThreeHolds)
+  pub everyCase : Determined (Stated EveryCase)

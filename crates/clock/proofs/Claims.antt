@@ -1,0 +1,30 @@
+-- Each claim by its own file; a value in range is the answer of a reading that passed its table.
+-- Assumes nothing.
+use borrow.Author.Tests.{ltb-false}
+use Rattle.rules.specs.Number.{numberAt}
+use Rattle.rules.proofs.Judged.{given-by}
+use Rattle.clock.specs.Stamp.{stampReadRefusals, stampOf}
+use Rattle.clock.specs.Reference.{referenceReadRefusals, referenceOf, extensionOf}
+use Rattle.clock.specs.Claims.{Claims}
+use Rattle.clock.proofs.Field.{stamp-of-lt, reference-of-lt}
+use Rattle.clock.proofs.Outcome.{outcomes}
+use Rattle.clock.proofs.Refusal.{refusals}
+use Rattle.clock.proofs.RoundTrip.{round-trips}
+use Rattle.clock.proofs.Modulus.{around, wrapped}
+use Rattle.clock.proofs.Turn.{turns}
+
+pub claims : Claims
+claims =
+    record {
+      outcomes = outcomes;
+      refusals = refusals;
+      stampInRange = λ s prefix v e.
+          rw (given-by (stampReadRefusals s prefix) (stampOf (numberAt s 0 5)) v e .1) (stamp-of-lt (numberAt s 0 5));
+      referenceInRange = λ s v e.
+          let found = given-by (referenceReadRefusals s) (referenceOf (numberAt s 0 6)) v e in
+          rw (found .1) (reference-of-lt (numberAt s 0 6) (ltb-false 299 (extensionOf (numberAt s 0 6)) (found .0 .1 .0)));
+      roundTrips = round-trips;
+      around = around;
+      wrapped = wrapped;
+      turns = turns;
+    }

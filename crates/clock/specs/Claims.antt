@@ -1,0 +1,36 @@
+-- What is claimed of the definitions and the promises, and proved.
+pub mod Outcome
+pub mod Refusal
+pub mod RoundTrip
+pub mod Modulus
+pub mod Turn
+use mathlib.Core.Path.{_≡_}
+use mathlib.Core.List.{List}
+use Prim.Native.Nat.{ℕ, _<_}
+use Rattle.rules.specs.Answer.{given}
+use Rattle.clock.specs.Range.{stampTurn, referenceTurn}
+use Rattle.clock.specs.Stamp.{readStamp}
+use Rattle.clock.specs.Reference.{readReference}
+use Rattle.clock.specs.Claims.Outcome.{Outcomes}
+use Rattle.clock.specs.Claims.Refusal.{Refusals}
+use Rattle.clock.specs.Claims.RoundTrip.{RoundTrips}
+use Rattle.clock.specs.Claims.Modulus.{Around, Wrapped}
+use Rattle.clock.specs.Claims.Turn.{Turns}
+
+pub record Claims : Type 0 where
+  -- any two outcomes that a promise admits are equal
+  pub outcomes : Outcomes
+  -- a refusal is given exactly when it is the first that applies
+  pub refusals : Refusals
+  -- "Stamp: 0 to 2^33 − 1": what is read is in range
+  pub stampInRange : (s : List ℕ) (prefix v : ℕ) → readStamp s prefix ≡ given v → v < stampTurn
+  -- "Clock reference: 0 to 2,576,980,377,599 (below 300·2^33)": what is read is in range
+  pub referenceInRange : (s : List ℕ) (v : ℕ) → readReference s ≡ given v → v < referenceTurn
+  -- what was written is read back, and what was read is written again
+  pub roundTrips : RoundTrips
+  -- the difference is the one remainder that leads back, for every modulus
+  pub around : (m : ℕ) → Around m
+  -- a wrapped subtraction may be reduced exactly where the modulus divides the wrap, for every modulus
+  pub wrapped : (m wrap : ℕ) → Wrapped m wrap
+  -- both at the turns of stamps and of clock references
+  pub turns : Turns

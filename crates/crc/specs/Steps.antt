@@ -1,0 +1,3 @@
+-- What the private functions promise each other; no public promise cites it.
+pub mod Register
+pub mod Table

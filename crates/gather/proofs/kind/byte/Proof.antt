@@ -1,0 +1,19 @@
+-- `byte` reads an element, and past the end the default.
+-- Assumes nothing.
+use lib.ListN.{List·getD-eq-default}
+use mathlib.Core.Path.{sym}
+use borrow.Author.Needs.{needs}
+use Rattle.gather.proofs.kind.byte.Statement.{statement}
+use Rattle.gather.proofs.kind.byte.Tie as tie
+
+shared-slice-read-result : tie.Need-shared-slice-read-result
+shared-slice-read-result c = search needs
+
+returns : tie.Need-returns
+returns c = search needs
+
+returns-2 : tie.Need-returns-2
+returns-2 c = sym (List·getD-eq-default (c .before .args .s .now) 0 {n = c .before .args .i} (search needs))
+
+pub byte-spec : {M : Type 1} → statement M
+byte-spec = tie.close (tie.spec shared-slice-read-result returns returns-2)

@@ -1,0 +1,23 @@
+-- What is claimed of the definitions and the promises, and proved.
+pub mod Accepted
+use mathlib.Core.List.{List}
+use Prim.Native.Nat.{ℕ}
+use Rattle.rules.specs.Lent.{Lent}
+use Rattle.rules.specs.Outcome.{Determined}
+use Rattle.rules.specs.Refusal.{Exact}
+use Rattle.packet.specs.Packet.{packetRefusals, readPacket}
+use Rattle.packet.specs.Promises.{ReadsPacket, FindsPayloadStart, GivesPayload}
+use Rattle.packet.specs.Claims.Accepted.{EveryAccepted}
+use Rattle.packet.specs.declared.Packet.{Packet}
+
+pub record Claims : Type 0 where
+  -- any two outcomes that a promise admits are equal: of a reading
+  pub readsPacket : (s : List ℕ) → Determined (ReadsPacket s)
+  -- of where a payload begins
+  pub findsPayloadStart : (p : Packet) → Determined (FindsPayloadStart p)
+  -- and of a payload, both its place and its bytes
+  pub givesPayload : (l : Lent) → Determined (GivesPayload l)
+  -- "Reading a packet alone: 2, 4 to 8": a number is given exactly when it is the first that applies
+  pub exact : (s : List ℕ) → Exact (packetRefusals s) (readPacket s)
+  -- what holds of every packet that is accepted
+  pub accepted : EveryAccepted

@@ -1,0 +1,48 @@
+-- Document 01, "The packet" and "Numbers of the house": what holds of every packet that is accepted.
+use mathlib.Core.Path.{_≡_}
+use mathlib.Core.List.{List}
+use Prim.Native.Nat.{ℕ, _+_, _-_, _^_, _≤_, _<_}
+use lib.ListN.{length, drop}
+use Rattle.rules.specs.Answer.{given}
+use Rattle.rules.specs.Perhaps.{Perhaps, there, absent}
+use Rattle.clock.specs.Range.{referenceTurn}
+use Rattle.packet.specs.Adaptation.{Span}
+use Rattle.packet.specs.Packet.{Contents, readPacket}
+use Rattle.packet.specs.Payload.{startAfter, payloadStart}
+
+-- bytes of the packet that are read stand before the payload
+abbrev pub Inside : List ℕ → Perhaps Span → Type 0
+Inside s part = (span : Span) → part ≡ there span → span .start + span .size ≤ payloadStart s
+
+-- "Clock reference: 0 to 2,576,980,377,599"
+abbrev pub InRange : Perhaps ℕ → Type 0
+InRange clock = (v : ℕ) → clock ≡ there v → v < referenceTurn
+
+-- of a packet s that reads as p
+pub record Accepted (s : List ℕ) (p : Contents) : Type 0 where
+  -- "188-byte transport packets"
+  pub long : length s ≡ 188
+  -- "PID (13 bits), scrambling (2), adaptation control (2), continuity counter (4)"
+  pub pid : p .pid < 2 ^ 13
+  pub scrambling : p .scrambling < 2 ^ 2
+  pub control : (p .control ≡ 0 → ⊥) × (p .control < 2 ^ 2)
+  pub counter : p .counter < 2 ^ 4
+  -- the payload's place is in the packet, and is what the reading's length says
+  pub start : payloadStart s ≡ startAfter (p .field .size)
+  pub inside : payloadStart s ≤ length s
+  -- "Control 01: payload of 184 bytes"
+  pub whole : p .control ≡ 1 → (p .field .size ≡ absent) × (length (drop (payloadStart s) s) ≡ 184)
+  -- "Control 10: adaptation length exactly 183, no payload"
+  pub none : p .control ≡ 2 → (p .field .size ≡ there 183) × (length (drop (payloadStart s) s) ≡ 0)
+  -- "Control 11: length 0 to 182, payload 183 − length bytes"
+  pub rest : p .control ≡ 3 → (n : ℕ) × ((p .field .size ≡ there n) × (n ≤ 182) × (length (drop (payloadStart s) s) ≡ 183 - n))
+  -- the clock references are in range
+  pub pcr : InRange (p .field .pcr)
+  pub opcr : InRange (p .field .opcr)
+  -- private data and extension stand before the payload
+  pub privateData : Inside s (p .field .privateData)
+  pub extension : Inside s (p .field .extension)
+
+-- every packet that is accepted
+abbrev pub EveryAccepted : Type 0
+EveryAccepted = (s : List ℕ) (p : Contents) → readPacket s ≡ given p → Accepted s p

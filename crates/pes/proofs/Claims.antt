@@ -1,0 +1,16 @@
+-- Nothing of a reading is left untold, the table is exact as every table is, and an accepted header passed it.
+-- Assumes nothing.
+use Rattle.rules.proofs.Judged.{exact}
+use Rattle.rules.proofs.Outcome.{determined-told}
+use Rattle.pes.specs.Header.{toldReading, contentsOf, headerRefusals, readHeader}
+use Rattle.pes.specs.Claims.{Claims}
+use Rattle.pes.proofs.Accepted.{accepted}
+use Rattle.pes.proofs.Told.{madeReading, back-reading}
+
+pub claims : Claims
+claims =
+    record {
+      readsHeader = λ s. determined-told toldReading madeReading back-reading (readHeader s);
+      exact = λ s. exact (headerRefusals s) (contentsOf s);
+      accepted = accepted;
+    }

@@ -1,0 +1,3 @@
+pub mod Pid
+pub mod Promises
+pub mod Claims

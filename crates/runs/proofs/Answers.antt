@@ -1,0 +1,223 @@
+-- Every call is answered by what was accepted before it: each test of the state is one of the history, by the ledger.
+-- Assumes nothing.
+use mathlib.Core.Path.{_≡_, refl, sym, _∙_, ap, ap₂}
+use mathlib.Core.Bool.{Bool, true, false, cond, not, _&&_, _||_, false≢true}
+use mathlib.Core.List.{List, [], _∷_, _++_}
+use Prim.Native.Nat.{ℕ, _+_, _≤_, _<_}
+use native.Mathlib.Nat.{zero-add}
+use native.Mathlib.Decide.{ℕ-discrete, decLt, decLe}
+use native.Mathlib.Omega.{arith}
+use borrow.Author.Tests.{eqb-true, eq-eqb, ne-eqb, lt-ltb, le-ltb, le-leb, lt-leb, ltb-true}
+use lib.Dec.{eqb, ltb, leb}
+use lib.ListN.{length, drop, getD}
+use Rattle.rules.specs.Answer.{refused, given}
+use Rattle.rules.specs.Perhaps.{Perhaps, there, absent}
+use Rattle.rules.specs.Refusal.{judge}
+use Rattle.rules.specs.Set.{setOf}
+use Rattle.rules.specs.Walk.{find}
+use Rattle.rules.specs.Write.{put}
+use Rattle.rules.proofs.Judged.{judge-seen}
+use Rattle.rules.proofs.Test.{true-both}
+use Rattle.rules.proofs.Set.{set-tests}
+use Rattle.rules.proofs.Walk.{tests-same, find-tests, find-full, find-first, passes-inside}
+use Rattle.packet.specs.Packet.{packetRefusals}
+use Rattle.gather.specs.Rule.{Outcome, rule}
+use Rattle.gather.specs.Kind.{join}
+use Rattle.gather.specs.Memory.{stateOf}
+use Rattle.driver.specs.State.{isUsed, isOpen, isFree, standsOn, areaOf, placeOf, baseOf, freePlaceOf, freeFilter}
+use Rattle.driver.specs.Open.{AfterOpen, isHeld, areaFor, openRefusals, opened as openedState, openOf}
+use Rattle.driver.specs.Close as close
+use Rattle.driver.specs.Close.{closeOf}
+use Rattle.driver.specs.Packet.{After, unwanted, still, pidOf, packetFrom, placesOn, report, outcome, putBack, firstRefusals, lastRefusals, afterReading, afterTests, packetOf}
+use Rattle.driver.specs.declared.Area.{Area}
+use Rattle.driver.specs.declared.Filter.{Filter}
+use Rattle.driver.specs.declared.State.{State}
+use Rattle.driver.proofs.Clauses.{open-stands, used-inside}
+use Rattle.driver.proofs.Found.{has-pid, found-area, found-place}
+use Rattle.runs.specs.Run.{Call, openCall, closeCall, packetCall, World, Event, openEvent, closeEvent, packetEvent, event, ours}
+use Rattle.runs.specs.History.{Opening, Accepted, opened, closed, packet, numbersGiven, openingOf, isOn, isClosed, hasArea, standing, areasTaken, packets, remembered}
+use Rattle.runs.specs.Answers.{isAbsent, lowestFree, openAnswer, isGiven, closeAnswer, earlyRows, lateRows, outcomeAfter, placesAfter, written, packetAnswer, answerTo}
+use Rattle.runs.proofs.Ledger.{areaAt, filterAt, openingAt, seatAt, Ledger, stood, held-area, single, standing-long}
+use Rattle.runs.proofs.Steps.{fine, agrees}
+
+-- ---- tests of numbers
+above-next : (a n : ℕ) → ltb a (n + 1) ≡ leb a n
+above-next a n = go (decLe a n)
+  where
+    go : Dec (a ≤ n) → ltb a (n + 1) ≡ leb a n
+    go (yes b) = lt-ltb a (n + 1) (omega arith) ∙ sym (le-leb a n b)
+    go (no m) = le-ltb a (n + 1) (omega arith) ∙ sym (lt-leb a n (omega arith))
+
+-- the open that gave a number has it
+own-number : (n : ℕ) (h : List Accepted) (f : Opening) → openingOf n h ≡ there f → f .number ≡ n
+own-number n [] f e = let z : _≡_ {A = ℕ} 0 1 = cc in absurd (omega arith)
+own-number n (opened g ∷ h) f e = go (eqb (g .number) n) refl e (own-number n h f)
+  where
+    go : (b : Bool) → eqb (g .number) n ≡ b → cond b (there g) (openingOf n h) ≡ there f → (openingOf n h ≡ there f → f .number ≡ n) → f .number ≡ n
+    go true q s rest = let same : g ≡ f = cc in ap (λ (x : Opening). x .number) (sym same) ∙ eqb-true (g .number) n q
+    go false q s rest = rest s
+own-number n (closed m ∷ h) f e = own-number n h f e
+own-number n (packet p lent r out ∷ h) f e = own-number n h f e
+
+module _ (w : World) (h : List Accepted) (l : Ledger w h) where
+  abbrev s : State
+  s = w .state
+
+  -- ---- open
+  -- a place is free exactly where nobody stands
+  free-seat : (j : ℕ) → isFree (filterAt (w .state) j) ≡ isAbsent (getD (standing h) j absent)
+  free-seat j = go (eqb (filterAt s j .number) 0) ∙ ap isAbsent (sym (l .seats j))
+    where
+      go : (b : Bool) → b ≡ isAbsent (cond (not b) (there (openingAt (w .state) j)) absent)
+      go true = refl
+      go false = refl
+
+  lowest : freePlaceOf (w .state .filters) ≡ lowestFree h
+  lowest =
+      find-tests isFree (s .filters)
+      ∙ ap (find (λ (b : Bool). b)) (tests-same isFree isAbsent (s .filters) (standing h) freeFilter absent (l .places ∙ sym (standing-long h)) (λ j b. free-seat j))
+      ∙ sym (find-tests isAbsent (standing h))
+
+  no-area : (pid : ℕ) → leb (length (w .state .areas)) (areaFor pid (w .state .areas)) ≡ (not (hasArea pid h) && leb 8 (areasTaken h))
+  no-area pid = go (isHeld pid (s .areas)) refl ∙ ap (λ (b : Bool). not b && leb 8 (areasTaken h)) (held-area w h l pid)
+    where
+      go : (b : Bool) → isHeld pid (s .areas) ≡ b → leb (length (s .areas)) (areaFor pid (s .areas)) ≡ (not (isHeld pid (s .areas)) && leb 8 (areasTaken h))
+      go true e = rw e (lt-leb (length (s .areas)) (areaOf pid (s .areas)) (ltb-true (areaOf pid (s .areas)) (length (s .areas)) e))
+      go false e = rw e (find-full (λ (a : Area). eqb (a .users) 0) (s .areas) ∙ ap₂ leb (l .eight) (l .busyAreas))
+
+  open-is : (pid : ℕ) → openOf (w .state) pid .answer ≡ openAnswer h pid
+  unfolding openOf
+  open-is pid =
+      judge-seen (λ (o : AfterOpen). o .answer) (λ n. record { answer = refused n; state = s }) (openRefusals s pid)
+      (record { answer = given (record { number = s .next; place = freePlaceOf (s .filters) }); state = openedState s pid })
+      ∙ rw (fine w h l, l .numbers, above-next 65535 (numbersGiven h), l .places, lowest, no-area pid)
+
+  -- ---- close
+  not-given : (number : ℕ) → leb (length (w .state .filters)) (placeOf number (w .state .filters)) ≡ not (isGiven h number)
+  not-given number = go (decLt (placeOf number (s .filters)) (length (s .filters)))
+    where
+      given-one : (f : Opening) → openingOf number h ≡ there f → isClosed number h ≡ false → isGiven h number ≡ true
+      given-one f e k = rw (e, k)
+
+      none-given : (placeOf number (s .filters) < length (s .filters) → ⊥) → (x : Perhaps Opening) → openingOf number h ≡ x → (b : Bool) → isClosed number h ≡ b → (not (isAbsent x) && not b) ≡ false
+      none-given n absent e b k = refl
+      none-given n (there f) e true k = refl
+      none-given n (there f) e false k =
+          let is = own-number number h f e in
+          let st = stood w h l f (record { opened = ap (λ (m : ℕ). openingOf m h) is ∙ e; kept = ap (λ (m : ℕ). isClosed m h) is ∙ k }) in
+          let here = st .inside in
+          absurd
+          (false≢true
+          (sym (find-first (λ (g : Filter). isOpen g && eqb (g .number) number) (s .filters) freeFilter (f .place) (omega arith))
+          ∙ true-both (isOpen (filterAt s (f .place))) (eqb (filterAt s (f .place) .number) number) (st .isopen) (eq-eqb (filterAt s (f .place) .number) number (st .number ∙ is))))
+
+      go : Dec (placeOf number (s .filters) < length (s .filters)) → leb (length (s .filters)) (placeOf number (s .filters)) ≡ not (isGiven h number)
+      go (yes b) =
+          let f = found-place number (s .filters) b in
+          let was = l .known (placeOf number (s .filters)) b (f .0) in
+          lt-leb (length (s .filters)) (placeOf number (s .filters)) b
+          ∙ ap not (sym (given-one (openingAt s (placeOf number (s .filters))) (ap (λ (m : ℕ). openingOf m h) (sym (f .1)) ∙ was .opened) (ap (λ (m : ℕ). isClosed m h) (sym (f .1)) ∙ was .kept)))
+      go (no n) =
+          le-leb (length (s .filters)) (placeOf number (s .filters)) (omega arith)
+          ∙ ap not (sym (none-given n (openingOf number h) refl (isClosed number h) refl))
+
+  close-is : (number : ℕ) → closeOf (w .state) number .answer ≡ closeAnswer h number
+  unfolding closeOf
+  close-is number =
+      judge-seen (λ (o : close.Outcome). o .answer) (λ n. record { answer = refused n; state = s }) (close.closeRefusals s number)
+      (record { answer = given tt; state = close.withoutFilter s (placeOf number (s .filters)) })
+      ∙ rw (fine w h l, not-given number)
+
+  -- ---- packet
+  module _ (pid : ℕ) (b : areaOf pid (w .state .areas) < length (w .state .areas)) where
+    abbrev own : ℕ
+    own = areaOf pid (s .areas)
+
+    mine : (isUsed (areaAt (w .state) (areaOf pid (w .state .areas))) ≡ true) × (areaAt (w .state) (areaOf pid (w .state .areas)) .pid .0 ≡ pid)
+    mine = found-area pid (s .areas) b
+
+    -- a filter stands on the PID's area exactly where the open that it came of was of the PID
+    stands-seat : (j : ℕ) → standsOn (areaOf pid (w .state .areas)) (filterAt (w .state) j) ≡ isOn pid (seatAt (w .state) j)
+    stands-seat j = go (isOpen (filterAt s j)) refl
+      where
+        same : isOpen (filterAt s j) ≡ true → Dec (filterAt s j .area ≡ own) → eqb (filterAt s j .area) own ≡ eqb (areaAt s (filterAt s j .area) .pid .0) pid
+        same i (yes e) =
+            eq-eqb (filterAt s j .area) own e
+            ∙ sym (eq-eqb (areaAt s (filterAt s j .area) .pid .0) pid (ap (λ (k : ℕ). areaAt s k .pid .0) e ∙ mine .1))
+        same i (no n) =
+            let used = open-stands s (l .clauses) j (passes-inside isOpen (s .filters) j freeFilter refl i) i in
+            let inside = used-inside (s .areas) (filterAt s j .area) used in
+            ne-eqb (filterAt s j .area) own n
+            ∙ sym (ne-eqb (areaAt s (filterAt s j .area) .pid .0) pid (λ e. n (single w h l pid (filterAt s j .area) own inside b (has-pid pid (areaAt s (filterAt s j .area)) used e) (has-pid pid (areaAt s own) (mine .0) (mine .1)))))
+
+        go : (c : Bool) → isOpen (filterAt s j) ≡ c → (c && eqb (filterAt s j .area) own) ≡ isOn pid (cond c (there (openingAt s j)) absent)
+        go true i = same i (ℕ-discrete (filterAt s j .area) own)
+        go false i = refl
+
+    pub seat-on : (j : ℕ) → standsOn (areaOf pid (w .state .areas)) (filterAt (w .state) j) ≡ isOn pid (getD (standing h) j absent)
+    seat-on j = stands-seat j ∙ ap (isOn pid) (sym (l .seats j))
+
+    places-are : placesOn (areaOf pid (w .state .areas)) (w .state .filters) ≡ placesAfter h pid
+    places-are =
+        set-tests (standsOn own) (s .filters)
+        ∙ ap (setOf (λ (c : Bool). c)) (tests-same (standsOn own) (isOn pid) (s .filters) (standing h) freeFilter absent (l .places ∙ sym (standing-long h)) (λ j _. seat-on j))
+        ∙ sym (set-tests (isOn pid) (standing h))
+
+    -- what the area remembers
+    from : stateOf (areaAt (w .state) (areaOf pid (w .state .areas)) .marks) (w .store) (baseOf (areaOf pid (w .state .areas))) ≡ remembered (packets pid h)
+    from = l .remembers own b (mine .0) ∙ ap (λ (q : ℕ). remembered (packets q h)) (mine .1)
+
+  -- the sections joined, and then what was lent
+  pub written-is : (o : Outcome) (lent : List ℕ) → put lent 0 (join (o .sections)) ≡ written o lent
+  unfolding put
+  written-is o lent = ap (λ (n : ℕ). join (o .sections) ++ drop n lent) (zero-add (length (join (o .sections))))
+
+  module _ (p lent : List ℕ) where
+    abbrev home : ℕ
+    home = areaOf (pidOf p) (s .areas)
+
+    abbrev see : After → Event
+    see o = packetEvent p lent (o .answer) (o .out)
+
+    abbrev refuse : ℕ → Event
+    refuse n = packetEvent p lent (refused n) lent
+
+    abbrev takes : Event
+    takes = packetEvent p lent (given (report (outcomeAfter h p) (placesAfter h (pidOf p)))) (written (outcomeAfter h p) lent)
+
+    pub outcome-is : areaOf (pidOf p) (w .state .areas) < length (w .state .areas) → outcome (w .state) (areaOf (pidOf p) (w .state .areas)) p (w .store) ≡ outcomeAfter h p
+    outcome-is b = ap (λ st. rule st (packetFrom p)) (from (pidOf p) b)
+
+    taken-is : home < length (s .areas) → see (putBack s home (outcome s home p (w .store)) (w .store) lent) ≡ takes
+    taken-is b =
+        ap₂ (λ (o : Outcome) (n : ℕ). packetEvent p lent (given (report o n)) (put lent 0 (join (o .sections)))) (outcome-is b) (places-are (pidOf p) b)
+        ∙ ap (packetEvent p lent (given (report (outcomeAfter h p) (placesAfter h (pidOf p))))) (written-is (outcomeAfter h p) lent)
+
+    reading-is : see (afterReading s home p (w .store) lent) ≡ cond (hasArea (pidOf p) h) (judge refuse (lateRows p) takes) (packetEvent p lent (given unwanted) lent)
+    reading-is = go (decLt home (length (s .areas)))
+      where
+        go : Dec (home < length (s .areas)) → see (afterReading s home p (w .store) lent) ≡ cond (hasArea (pidOf p) h) (judge refuse (lateRows p) takes) (packetEvent p lent (given unwanted) lent)
+        go (yes b) =
+            ap (λ (c : Bool). see (cond c (still s (w .store) lent (given unwanted)) (afterTests s home p (w .store) lent))) (lt-leb (length (s .areas)) home b)
+            ∙ judge-seen see (λ n. still s (w .store) lent (refused n)) (lastRefusals s home p (w .store)) (putBack s home (outcome s home p (w .store)) (w .store) lent)
+            ∙ ap (λ (c : Bool). cond c (refuse 9) (judge refuse (lateRows p) (see (putBack s home (outcome s home p (w .store)) (w .store) lent)))) (agrees w h l (pidOf p) b)
+            ∙ ap (judge refuse (lateRows p)) (taken-is b)
+            ∙ ap (λ (c : Bool). cond c (judge refuse (lateRows p) takes) (packetEvent p lent (given unwanted) lent)) (sym (sym (held-area w h l (pidOf p)) ∙ lt-ltb home (length (s .areas)) b))
+        go (no n) =
+            ap (λ (c : Bool). see (cond c (still s (w .store) lent (given unwanted)) (afterTests s home p (w .store) lent))) (le-leb (length (s .areas)) home (omega arith))
+            ∙ ap (λ (c : Bool). cond c (judge refuse (lateRows p) takes) (packetEvent p lent (given unwanted) lent))
+            (sym (sym (held-area w h l (pidOf p)) ∙ le-ltb home (length (s .areas)) (omega arith)))
+
+    packet-is : event ours w (packetCall p lent) ≡ packetAnswer h p lent
+    unfolding packetOf
+    packet-is =
+        judge-seen see (λ n. still s (w .store) lent (refused n)) (firstRefusals s p (w .store) lent) (afterReading s home p (w .store) lent)
+        ∙ ap₂ (λ (b c : Bool). cond (not b) (refuse 1) (cond (not c || ltb (length lent) 4278) (refuse 3) (judge refuse (packetRefusals p) (see (afterReading s home p (w .store) lent)))))
+        (fine w h l) (eq-eqb (length (w .store)) 32768 (l .whole))
+        ∙ ap (judge refuse (earlyRows p lent)) reading-is
+
+  -- ---- any call
+  pub answers : (c : Call) → event ours w c ≡ answerTo h c
+  answers (openCall pid) = ap (openEvent pid) (open-is pid)
+  answers (closeCall number) = ap (closeEvent number) (close-is number)
+  answers (packetCall p lent) = packet-is p lent

@@ -1,0 +1,126 @@
+-- Of each wrong driver a short run breaks a sentence of the demand: antt computes both sides.
+-- Assumes nothing.
+use mathlib.Core.Path.{_≡_, refl, sym, ap}
+use mathlib.Core.Bool.{false≢true}
+use mathlib.Core.List.{List, [], _∷_}
+use Prim.Native.Nat.{ℕ}
+use native.Mathlib.Omega.{arith}
+use lib.Dec.{lit<}
+use lib.ListN.{getD, replicate, length-replicate}
+use Rattle.rules.specs.Write.{put}
+use Rattle.gather.specs.Rule.{rule, walk, add, started}
+use Rattle.gather.specs.Kind.{classify, kindOf}
+use Rattle.driver.specs.Open.{openOf}
+use Rattle.driver.specs.Close.{closeOf}
+use Rattle.driver.specs.Packet.{Said, packetOf}
+use Rattle.driver.specs.Sound.{sound}
+use Rattle.runs.specs.Run.{Driver, Call, openCall, closeCall, packetCall}
+use Rattle.runs.specs.History.{isAccepted, remembered}
+use Rattle.runs.specs.Demand.{DemandThree, Statement}
+use Rattle.runs.specs.Wrong.{freePlaceTold, closedPlaceTold, otherAreaWritten, jumpInvented, sectionsInvented, restFeigned, otherAreaSpoilt, packetsDropped, opensRefused, packetsRefused, freedAtFirstClose, usersInvented, numberGivenAgain, Excluded}
+
+-- a store that is not all zero
+abbrev full : List ℕ
+full = replicate 32768 0xAA
+
+abbrev lent : List ℕ
+lent = replicate 4278 0
+
+demanded : (d : Driver) → Statement d → (calls : List Call) → DemandThree d full calls
+demanded d s calls = s full calls (length-replicate {A = ℕ} 32768 0xAA)
+
+-- a packet of PID 0 with two sections of four bytes
+abbrev two : List ℕ
+two = 0x47 ∷ 0x40 ∷ 0x00 ∷ 0x10 ∷ 0x00 ∷ 0x80 ∷ 0x30 ∷ 0x01 ∷ 0xAA ∷ 0x81 ∷ 0x30 ∷ 0x01 ∷ 0xBB ∷ replicate 175 0xFF
+
+free-place-told : Statement freePlaceTold → ⊥
+unfolding openOf closeOf packetOf sound put rule walk add started classify kindOf remembered
+free-place-told s = false≢true (sym (demanded freePlaceTold s (openCall 0 ∷ []) .set two lent _ _ refl refl 1))
+
+-- the second of two filters is closed, and its place is told
+closed-place-told : Statement closedPlaceTold → ⊥
+unfolding openOf closeOf packetOf sound put rule walk add started classify kindOf remembered
+closed-place-told s = false≢true (sym (demanded closedPlaceTold s (closeCall 2 ∷ openCall 0 ∷ openCall 0 ∷ []) .set two lent _ _ refl refl 1))
+
+-- behind the eight bytes of the sections stands a byte that was not lent
+other-area-written : Statement otherAreaWritten → ⊥
+unfolding openOf closeOf packetOf sound put rule walk add started classify kindOf remembered
+other-area-written s =
+    let byte : _≡_ {A = ℕ} 0xAA 0 = ap (λ (out : List ℕ). getD out 8 0) (demanded otherAreaWritten s (openCall 0 ∷ []) .whole two lent _ _ refl refl .1) in
+    omega arith
+
+-- an area's first packet is told as a jump
+jump-invented : Statement jumpInvented → ⊥
+unfolding openOf closeOf packetOf sound put rule walk add started classify kindOf remembered
+jump-invented s = false≢true (sym (ap (λ (r : Said). r .jump) (demanded jumpInvented s (openCall 0 ∷ []) .whole two lent _ _ refl refl .0)))
+
+-- one section is told of a packet with two
+sections-invented : Statement sectionsInvented → ⊥
+unfolding openOf closeOf packetOf sound put rule walk add started classify kindOf remembered
+sections-invented s =
+    let count : _≡_ {A = ℕ} 1 2 = ap (λ (r : Said). r .sections) (demanded sectionsInvented s (openCall 0 ∷ []) .whole two lent _ _ refl refl .0) in
+    omega arith
+
+-- the second section's table_id is missing
+rest-feigned : Statement restFeigned → ⊥
+unfolding openOf closeOf packetOf sound put rule walk add started classify kindOf remembered
+rest-feigned s =
+    let byte : _≡_ {A = ℕ} 0 0x81 = ap (λ (out : List ℕ). getD out 4 0) (demanded restFeigned s (openCall 0 ∷ []) .whole two lent _ _ refl refl .1) in
+    omega arith
+
+-- where no area is taken a byte has changed
+other-area-spoilt : Statement otherAreaSpoilt → ⊥
+unfolding openOf closeOf packetOf sound put rule walk add started classify kindOf remembered
+other-area-spoilt s =
+    let byte : _≡_ {A = ℕ} 0x47 0xAA = ap (λ (store : List ℕ). getD store 4096 0) (demanded otherAreaSpoilt s (openCall 0 ∷ []) .writes two lent refl) in
+    omega arith
+
+packets-dropped : Statement packetsDropped → ⊥
+unfolding openOf closeOf packetOf sound put rule walk add started classify kindOf remembered
+packets-dropped s = false≢true (ap isAccepted (demanded packetsDropped s (openCall 0 ∷ []) .answers (packetCall two lent)))
+
+opens-refused : Statement opensRefused → ⊥
+opens-refused s = false≢true (ap isAccepted (demanded opensRefused s [] .answers (openCall 0)))
+
+packets-refused : Statement packetsRefused → ⊥
+unfolding openOf closeOf packetOf sound put rule walk add started classify kindOf remembered
+packets-refused s = false≢true (ap isAccepted (demanded packetsRefused s (openCall 0 ∷ []) .answers (packetCall two lent)))
+
+-- one of two filters is closed, and the other has no area any more
+freed-at-first-close : Statement freedAtFirstClose → ⊥
+unfolding openOf closeOf sound
+freed-at-first-close s = false≢true (demanded freedAtFirstClose s (closeCall 1 ∷ openCall 0 ∷ openCall 0 ∷ []) .area 0)
+
+users-invented : Statement usersInvented → ⊥
+unfolding openOf sound
+users-invented s =
+    let count : _≡_ {A = ℕ} 2 1 = demanded usersInvented s (openCall 0 ∷ []) .users 0 (lit< tt) refl in
+    omega arith
+
+number-given-again : Statement numberGivenAgain → ⊥
+unfolding openOf closeOf sound
+number-given-again s = demanded numberGivenAgain s (closeCall 1 ∷ openCall 0 ∷ []) .never 1 0 (record { number = 1; place = 0 }) refl refl refl
+
+pub excluded : Excluded
+excluded = (
+  free-place-told,
+  (
+    closed-place-told,
+    (
+      other-area-written,
+      (
+        jump-invented,
+        (
+          sections-invented,
+          (
+            rest-feigned,
+            (
+              other-area-spoilt,
+              (packets-dropped, (opens-refused, (packets-refused, (freed-at-first-close, (users-invented, (number-given-again, tt)))))),
+            ),
+          ),
+        ),
+      ),
+    ),
+  ),
+)

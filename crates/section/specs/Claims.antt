@@ -1,0 +1,8 @@
+-- What is claimed of the definitions and the promises, and proved.
+use Prim.Native.Nat.{ℕ}
+use Rattle.rules.specs.Outcome.{Determined}
+use Rattle.section.specs.Promises.{SaysLength}
+
+pub record Claims : Type 0 where
+  -- any two outcomes that a promise admits are equal
+  pub saysLength : (second third : ℕ) → Determined (SaysLength second third)
