@@ -1,32 +1,31 @@
 //! Reads a script of calls and writes the outcome of every line.
 
+mod buffers;
 mod line;
 mod lone_calls;
 mod outcome;
+mod records;
 mod state_calls;
+mod table_calls;
 
 use std::io::{self, BufRead, Write};
 
-use crate::filters_and_areas::State;
+use crate::state::State;
+use buffers::Buffers;
 
 pub use line::LINES;
 
-pub const STORE_BUFFER: usize = 40_960;
-pub const OUTPUT_BUFFER: usize = 8_192;
-
 /// What is kept from line to line.
 pub struct Exercise {
-    pub state: State,
-    pub store: Vec<u8>,
-    pub output: Vec<u8>,
+    state: State,
+    buffers: Buffers,
 }
 
 impl Exercise {
     pub fn new() -> Exercise {
         Exercise {
             state: State::fresh(),
-            store: vec![0; STORE_BUFFER],
-            output: vec![0; OUTPUT_BUFFER],
+            buffers: Buffers::new(),
         }
     }
 
@@ -36,7 +35,9 @@ impl Exercise {
             Some(call) => call,
             None => return String::from("bad"),
         };
-        let outcome = state_calls::answer(self, &call).or_else(|| lone_calls::answer(&call));
+        let outcome = state_calls::answer(&mut self.state, &mut self.buffers, &call)
+            .or_else(|| lone_calls::answer(&call))
+            .or_else(|| table_calls::answer(&call));
         match outcome {
             Some(rest) if rest.is_empty() => String::from(call.word),
             Some(rest) => format!("{} {}", call.word, rest),

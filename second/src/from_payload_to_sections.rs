@@ -1,11 +1,12 @@
 //! Document 01, "From payload to sections": the packet call on whole buffers.
 
-use crate::filters_and_areas::State;
+use crate::bytes::number_in;
 use crate::numbers_of_the_house::{
     AREA_BYTES, LEAST_OUTPUT_BYTES, LONGEST_SECTION_LENGTH, STORE_BYTES,
 };
-use crate::refusal_numbers::{demand, number_in, Refusal};
+use crate::refusal_numbers::{demand, Refusal};
 use crate::soundness::sound;
+use crate::state::State;
 use crate::the_packet::{read_packet, Reading};
 
 #[derive(Clone, Copy, Debug, Default, PartialEq, Eq)]

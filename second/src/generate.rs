@@ -5,6 +5,7 @@ mod bad;
 mod driver;
 mod numbers;
 mod packets;
+mod payloads;
 mod pes;
 mod random;
 pub mod recording;
@@ -20,26 +21,22 @@ use script::Script;
 
 type Generator = fn(&mut Random, &mut Script);
 
-pub const KINDS: [&str; 7] = ["driver", "numbers", "alone", "tables", "pes", "time", "bad"];
-
-fn generator(kind: &str) -> Option<Generator> {
-    let generators: [Generator; 7] = [
-        driver::generate,
-        numbers::generate,
-        alone::generate,
-        tables::generate,
-        pes::generate,
-        time::generate,
-        bad::generate,
-    ];
-    let index = KINDS.iter().position(|known| *known == kind)?;
-    Some(generators[index])
-}
+/// Each kind of script with what makes it.
+pub const KINDS: [(&str, Generator); 7] = [
+    ("driver", driver::generate),
+    ("numbers", numbers::generate),
+    ("alone", alone::generate),
+    ("tables", tables::generate),
+    ("pes", pes::generate),
+    ("time", time::generate),
+    ("bad", bad::generate),
+];
 
 /// Writes a script with at least so many calls of the kind.
 pub fn run(kind: &str, seed: u64, count: usize, output: &mut dyn Write) -> io::Result<()> {
     let unknown = || io::Error::new(io::ErrorKind::InvalidInput, "no such kind of script");
-    let generate = generator(kind).ok_or_else(unknown)?;
+    let found = KINDS.iter().find(|(known, _)| *known == kind);
+    let (_, generate) = found.ok_or_else(unknown)?;
     let mut random = Random::new(seed);
     let mut script = Script::default();
     while script.calls < count {

@@ -2,9 +2,10 @@
 
 use std::io::{self, Read, Write};
 
-use crate::filters_and_areas::{open, State};
+use crate::filters_and_areas::open;
 use crate::from_payload_to_sections::{packet_call, Answer, Wanted};
 use crate::numbers_of_the_house::{LEAST_OUTPUT_BYTES, PACKET_BYTES, STORE_BYTES};
+use crate::state::State;
 
 pub fn run(input: &mut dyn Read, output: &mut dyn Write) -> io::Result<()> {
     let mut state = State::fresh();

@@ -1,5 +1,6 @@
 //! A second, independent program for the rules of document 01.
 
+mod bytes;
 mod coverage;
 mod exercise;
 mod filters_and_areas;
@@ -10,6 +11,7 @@ mod numbers_of_the_house;
 mod pes_headers;
 mod refusal_numbers;
 mod soundness;
+mod state;
 mod tables;
 mod the_packet;
 mod time;

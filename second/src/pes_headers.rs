@@ -1,6 +1,7 @@
 //! Document 01, "PES headers".
 
-use crate::refusal_numbers::{demand, number_in, Refusal};
+use crate::bytes::number_in;
+use crate::refusal_numbers::{demand, Refusal};
 use crate::time::{read_stamp, STAMP_BYTES};
 
 const BARE_IDS: [u64; 8] = [0xBC, 0xBE, 0xBF, 0xF0, 0xF1, 0xF2, 0xF8, 0xFF];

@@ -11,10 +11,3 @@ pub fn demand(holds: bool, number: u32) -> Result<(), Refusal> {
         Err(Refusal(number))
     }
 }
-
-/// The big-endian number in the bytes, missing ones counted as zero.
-pub fn number_in(bytes: &[u8], start: usize, size: usize) -> u64 {
-    (start..start + size).fold(0, |number, at| {
-        (number % (1 << 56)) * 256 + u64::from(bytes.get(at).copied().unwrap_or(0))
-    })
-}

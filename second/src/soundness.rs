@@ -1,7 +1,7 @@
 //! Document 01, "Filters and areas": the clauses of "Sound means", one function each.
 
-use crate::filters_and_areas::{Area, Place, State};
 use crate::numbers_of_the_house::{AREAS, AREA_BYTES, LAST_FILTER_PID, LAST_NUMBER};
+use crate::state::{Area, Place, State};
 
 pub type Clause = fn(&State) -> bool;
 

@@ -1,7 +1,8 @@
 //! Document 01, "Tables": CRC_32, PAT and PMT sections, descriptor loops.
 
+use crate::bytes::number_in;
 use crate::numbers_of_the_house::LONGEST_SECTION_LENGTH;
-use crate::refusal_numbers::{demand, number_in, Refusal};
+use crate::refusal_numbers::{demand, Refusal};
 
 /// The fields of bytes 3 to 7.
 #[derive(Clone, Copy, Debug, PartialEq, Eq)]

@@ -1,7 +1,8 @@
 //! Document 01, "The packet".
 
+use crate::bytes::number_in;
 use crate::numbers_of_the_house::{LAST_PID, PACKET_BYTES};
-use crate::refusal_numbers::{demand, number_in, Refusal};
+use crate::refusal_numbers::{demand, Refusal};
 use crate::time::{clock_field, CLOCK_BYTES};
 
 /// A part of the packet by its first byte's place and its size.

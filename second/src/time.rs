@@ -1,7 +1,8 @@
 //! Document 01, "Time".
 
+use crate::bytes::number_in;
 use crate::numbers_of_the_house::{CLOCK_TURN, STAMP_TURN};
-use crate::refusal_numbers::{demand, number_in, Refusal};
+use crate::refusal_numbers::{demand, Refusal};
 
 pub const STAMP_BYTES: usize = 5;
 pub const CLOCK_BYTES: usize = 6;

@@ -1,6 +1,7 @@
 -- Each crate's claims are proved there.
 -- Assumes nothing.
-use Rattle.rules.proofs.Outcome.{stated}
+use Rattle.ground.proofs.Outcome.{stated}
+use Rattle.octets.proofs.Claims as bytes
 use Rattle.pid.proofs.Claims as pids
 use Rattle.section.proofs.Claims as lengths
 use Rattle.clock.proofs.Claims as times
@@ -18,6 +19,7 @@ use Rattle.claims.specs.Claims.{EveryClaim}
 pub every-claim : EveryClaim
 every-claim =
     record {
+      octets = bytes.claims;
       pid = pids.claims;
       section = lengths.claims;
       clock = times.claims;

@@ -1,5 +1,6 @@
 -- The first and the second demand: every public call has one outcome, every table of refusals is exact, a refused call leaves everything as it was, and what the bytes say beyond the calls' promises.
-use Rattle.rules.specs.Outcome.{Determined, Stated}
+use Rattle.ground.specs.Outcome.{Determined, Stated}
+use Rattle.octets.specs.Claims as bytes
 use Rattle.pid.specs.Claims as pids
 use Rattle.section.specs.Claims as lengths
 use Rattle.clock.specs.Claims as times
@@ -14,6 +15,8 @@ use Rattle.runs.specs.Promises.{DemandThreeHolds}
 use Rattle.stars.specs.Stars.{EveryCase}
 
 pub record EveryClaim : Type 0 where
+  -- numbers of several bytes, bytes stored and copied
+  pub octets : bytes.Claims
   -- PIDs
   pub pid : pids.Claims
   -- section_length

@@ -1,8 +1,8 @@
 -- Each claim by its own file; a value in range is the answer of a reading that passed its table.
 -- Assumes nothing.
 use borrow.Author.Tests.{ltb-false}
-use Rattle.rules.specs.Number.{numberAt}
-use Rattle.rules.proofs.Judged.{given-by}
+use Rattle.ground.specs.Number.{numberAt}
+use Rattle.ground.proofs.Judged.{given-by}
 use Rattle.clock.specs.Stamp.{stampReadRefusals, stampOf}
 use Rattle.clock.specs.Reference.{referenceReadRefusals, referenceOf, extensionOf}
 use Rattle.clock.specs.Claims.{Claims}

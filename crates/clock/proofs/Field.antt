@@ -11,13 +11,13 @@ use lib.Dec.{lit<, eqb}
 use lib.ListN.{getD}
 use lib.Pow.{pow-pos}
 use borrow.Author.Tests.{eq-eqb, eqb-true, not-false}
-use Rattle.rules.specs.Number.{Field, field, pack, bits}
-use Rattle.rules.specs.Walk.{Every}
-use Rattle.rules.proofs.Test.{both-true}
-use Rattle.rules.proofs.Field.{Fitting, pack-lt, pack-unpack, unpack, unpack-pack}
+use Rattle.ground.specs.Number.{Field, field, pack, bits}
+use Rattle.ground.specs.Walk.{Every}
+use Rattle.ground.proofs.Test.{both-true}
+use Rattle.ground.proofs.Field.{Fitting, pack-lt, pack-unpack, unpack, unpack-pack}
 use Rattle.clock.specs.Range.{stampTurn, referenceTurn}
 use Rattle.clock.specs.Stamp.{stampOf, stampField, stampLayout, isUnmarked}
-use Rattle.clock.specs.Reference.{referenceOf, referenceField, referenceLayout, baseOf, reservedOf, extensionOf}
+use Rattle.clock.specs.Reference.{referenceOf, referenceField, referenceLayout, clockBase, reservedOf, extensionOf}
 
 -- any field of a number fits its width
 bits-lt : (n after width : ℕ) → bits n after width < 2 ^ width
@@ -111,7 +111,7 @@ module _ (v : ℕ) (h : v < referenceTurn) where
   pub reference-of-field : referenceOf (referenceField v) ≡ v
   reference-of-field = rw (base, reference-extension) (div-add-mod' v 300)
     where
-      base : baseOf (referenceField v) ≡ v / 300
+      base : clockBase (referenceField v) ≡ v / 300
       base = ap (valueAt 0) reference-parts
 
 -- a reference that was read is in range
@@ -126,4 +126,4 @@ field-of-reference n h low ones =
     same : referenceLayout (referenceOf n) ≡ unpack (33 ∷ 6 ∷ 9 ∷ []) n
     same =
         let small : extensionOf n < 300 = omega arith in
-        rw (digits-div (baseOf n) small, digits-mod (baseOf n) small, ones)
+        rw (digits-div (clockBase n) small, digits-mod (clockBase n) small, ones)

@@ -4,8 +4,8 @@ use mathlib.Core.Path.{_≡_, refl}
 use mathlib.Core.List.{List}
 use Prim.Native.Nat.{ℕ}
 use lib.IntN.{ℤ}
-use Rattle.rules.specs.Answer.{Answer, refused, given}
-use Rattle.rules.proofs.Outcome.{determined-told}
+use Rattle.ground.specs.Answer.{Answer, refused, given}
+use Rattle.ground.proofs.Outcome.{determined-told}
 use Rattle.clock.specs.Written.{Wrote, wrote}
 use Rattle.clock.specs.Stamp.{toldStamp, readStamp, writeStamp}
 use Rattle.clock.specs.Reference.{toldReference, readReference, writeReference}

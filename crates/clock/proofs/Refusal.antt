@@ -4,11 +4,11 @@ use mathlib.Core.Path.{refl}
 use mathlib.Core.List.{List}
 use Prim.Native.Nat.{ℕ, _+_, _^_}
 use lib.IntN.{pos, _-ℤ_}
-use Rattle.rules.specs.Answer.{given}
-use Rattle.rules.specs.Number.{numberAt, bytesOf}
-use Rattle.rules.specs.Refusal.{Row, judge}
-use Rattle.rules.specs.Write.{put}
-use Rattle.rules.proofs.Judged.{exact, exact-call}
+use Rattle.ground.specs.Answer.{given}
+use Rattle.ground.specs.Number.{numberAt, bytesOf}
+use Rattle.ground.specs.Refusal.{Row, judge}
+use Rattle.ground.specs.Write.{put}
+use Rattle.ground.proofs.Judged.{exact, exact-call}
 use Rattle.clock.specs.Modulus.{minusMod}
 use Rattle.clock.specs.Range.{stampTurn, referenceTurn}
 use Rattle.clock.specs.Written.{Wrote, unwritten}

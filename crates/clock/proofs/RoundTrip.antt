@@ -9,16 +9,16 @@ use native.Mathlib.Omega.{arith}
 use borrow.Author.Tests.{ltb-false, leb-false, leb-true, le-ltb, lt-leb, not-false}
 use lib.Dec.{leb, ltb}
 use lib.ListN.{length}
-use Rattle.rules.specs.Answer.{refused, given}
-use Rattle.rules.specs.Number.{Bytes, numberAt, bytesOf}
-use Rattle.rules.specs.Refusal.{Row, judge, Silent}
-use Rattle.rules.specs.Write.{put}
-use Rattle.rules.proofs.Answer.{given-apart}
-use Rattle.rules.proofs.Judged.{given-by}
-use Rattle.rules.proofs.Number.{length-bytesOf, numberAt-put, numberAt-lt, put-numberAt}
-use Rattle.rules.proofs.Refusal.{accepted, none}
-use Rattle.rules.proofs.Test.{both-true}
-use Rattle.rules.proofs.Write.{length-put}
+use Rattle.ground.specs.Answer.{refused, given}
+use Rattle.ground.specs.Number.{Bytes, numberAt, bytesOf}
+use Rattle.ground.specs.Refusal.{Row, judge, Silent}
+use Rattle.ground.specs.Write.{put}
+use Rattle.ground.proofs.Answer.{given-apart}
+use Rattle.ground.proofs.Judged.{given-by}
+use Rattle.ground.proofs.Number.{length-bytesOf, numberAt-put, numberAt-lt, put-numberAt}
+use Rattle.ground.proofs.Refusal.{accepted, none}
+use Rattle.ground.proofs.Test.{both-true}
+use Rattle.ground.proofs.Write.{length-put}
 use Rattle.clock.specs.Range.{isNoStamp, isNoReference, stampTurn, referenceTurn}
 use Rattle.clock.specs.Written.{Wrote, wrote, unwritten}
 use Rattle.clock.specs.Stamp.{readStamp, writeStamp, stampReadRefusals, stampWriteRefusals, isNoPrefix, isUnmarked, stampOf, stampField}

@@ -1,8 +1,8 @@
 -- The ★ cases about time hold: antt computes each.
 -- Assumes nothing.
 use mathlib.Core.Path.{refl}
-use Rattle.rules.specs.Walk.{Every}
-use Rattle.rules.specs.Write.{put}
+use Rattle.ground.specs.Walk.{Every}
+use Rattle.ground.specs.Write.{put}
 use Rattle.clock.specs.Stars.{Right, cases}
 
 pub stars : Every Right cases

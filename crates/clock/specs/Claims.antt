@@ -7,7 +7,7 @@ pub mod Turn
 use mathlib.Core.Path.{_≡_}
 use mathlib.Core.List.{List}
 use Prim.Native.Nat.{ℕ, _<_}
-use Rattle.rules.specs.Answer.{given}
+use Rattle.ground.specs.Answer.{given}
 use Rattle.clock.specs.Range.{stampTurn, referenceTurn}
 use Rattle.clock.specs.Stamp.{readStamp}
 use Rattle.clock.specs.Reference.{readReference}

@@ -2,8 +2,8 @@
 use mathlib.Core.List.{List, [], _∷_}
 use Prim.Native.Nat.{ℕ, _+_, _^_}
 use lib.IntN.{ℤ, pos, _-ℤ_}
-use Rattle.rules.specs.Answer.{Answer, refused, given}
-use Rattle.rules.specs.Refusal.{Row, judge, _when_}
+use Rattle.ground.specs.Answer.{Answer, refused, given}
+use Rattle.ground.specs.Refusal.{Row, judge, _when_}
 use Rattle.clock.specs.Modulus.{minusMod}
 use Rattle.clock.specs.Range.{isNoStamp, isNoReference, stampTurn, referenceTurn}
 use Rattle.clock.specs.declared.stamp.Apart.{Apart}

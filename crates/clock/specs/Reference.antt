@@ -3,10 +3,10 @@ use mathlib.Core.List.{List, [], _∷_}
 use Prim.Native.Nat.{ℕ, _+_, _*_, _/_, _%_}
 use lib.Dec.{ltb}
 use lib.ListN.{length}
-use Rattle.rules.specs.Answer.{Answer, refused, given}
-use Rattle.rules.specs.Number.{bits, Field, field, pack, numberAt, bytesOf}
-use Rattle.rules.specs.Refusal.{Row, judge, _when_}
-use Rattle.rules.specs.Write.{put}
+use Rattle.ground.specs.Answer.{Answer, refused, given}
+use Rattle.ground.specs.Number.{bits, Field, field, pack, numberAt, bytesOf}
+use Rattle.ground.specs.Refusal.{Row, judge, _when_}
+use Rattle.ground.specs.Write.{put}
 use Rattle.clock.specs.Range.{isNoReference}
 use Rattle.clock.specs.Written.{Wrote, unwritten}
 use Rattle.clock.specs.declared.reference.Reading.{Reading}
@@ -21,8 +21,8 @@ abbrev pub referenceField : ℕ → ℕ
 referenceField v = pack (referenceLayout v)
 
 -- the base in a field
-abbrev pub baseOf : ℕ → ℕ
-baseOf n = bits n 15 33
+abbrev pub clockBase : ℕ → ℕ
+clockBase n = bits n 15 33
 
 -- its reserved bits
 abbrev pub reservedOf : ℕ → ℕ
@@ -34,7 +34,7 @@ extensionOf n = bits n 0 9
 
 -- "A reference is base·300 + extension"
 abbrev pub referenceOf : ℕ → ℕ
-referenceOf n = baseOf n * 300 + extensionOf n
+referenceOf n = clockBase n * 300 + extensionOf n
 
 -- what a reading says in document 01's terms
 abbrev pub toldReference : Reading → Answer ℕ

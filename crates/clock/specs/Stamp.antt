@@ -4,10 +4,10 @@ use mathlib.Core.List.{List, [], _∷_}
 use Prim.Native.Nat.{ℕ}
 use lib.Dec.{leb, ltb, eqb}
 use lib.ListN.{length}
-use Rattle.rules.specs.Answer.{Answer, refused, given}
-use Rattle.rules.specs.Number.{bits, Field, field, pack, numberAt, bytesOf}
-use Rattle.rules.specs.Refusal.{Row, judge, _when_}
-use Rattle.rules.specs.Write.{put}
+use Rattle.ground.specs.Answer.{Answer, refused, given}
+use Rattle.ground.specs.Number.{bits, Field, field, pack, numberAt, bytesOf}
+use Rattle.ground.specs.Refusal.{Row, judge, _when_}
+use Rattle.ground.specs.Write.{put}
 use Rattle.clock.specs.Range.{isNoStamp}
 use Rattle.clock.specs.Written.{Wrote, unwritten}
 use Rattle.clock.specs.declared.stamp.Reading.{Reading}

@@ -4,7 +4,7 @@ use mathlib.Core.List.{List, [], _∷_}
 use Prim.Native.Nat.{ℕ, _-_, _^_}
 use lib.IntN.{ℤ, pos, negℤ}
 use lib.ListN.{replicate}
-use Rattle.rules.specs.Answer.{Answer, refused, given}
+use Rattle.ground.specs.Answer.{Answer, refused, given}
 use Rattle.clock.specs.Stamp.{writeStamp}
 use Rattle.clock.specs.Reference.{readReference, writeReference}
 use Rattle.clock.specs.Difference.{stampDifference}

@@ -1,7 +1,7 @@
 -- Document 01, "Refusal numbers": what a write of a field leaves.
 use mathlib.Core.List.{List}
 use Prim.Native.Nat.{ℕ}
-use Rattle.rules.specs.Answer.{Answer, refused, given}
+use Rattle.ground.specs.Answer.{Answer, refused, given}
 use Rattle.clock.specs.declared.Written.{Written}
 use Rattle.clock.specs.declared.Written.the-variants as written
 

@@ -1,12 +1,11 @@
 // Clock references (PCR, OPCR): a base of 33 bits that counts at 90 kHz and an extension of 9 that counts the 300 parts of it.
 ghost use mathlib.Core.Path.{_≡_};
-ghost use mathlib.Core.List.{[], _∷_};
-ghost use Rattle.rules.specs.Number.{numberOf};
 ghost use Prim.Native.Nat.{_<_};
 ghost use Rattle.clock.specs.Range.{referenceTurn};
 ghost use Rattle.clock.specs.Reference.{extensionOf, referenceOf, referenceField};
 ghost use Rattle.clock.specs.Promises.{ReadsReference, WritesReference, TellsAhead};
 use crate::Written;
+use octets::number_of_six;
 
 // A count of 27 MHz. A number of 300·2^33 or above can be made, and every call refuses it.
 pub struct Reference(pub u64);
@@ -23,15 +22,6 @@ pub enum Ahead {
 
 // The turn of a clock reference, 300·2^33.
 const TURN: u64 = 2_576_980_377_600;
-
-// The 48 bits of six bytes.
-fn bits_of(a: u8, b: u8, c: u8, d: u8, e: u8, f: u8) -> u64
-    ensures { λ r. ⌜ r ≡ numberOf (a ∷ b ∷ c ∷ d ∷ e ∷ f ∷ []) ⌝ }
-{
-    (((((a as u64) * 256 + (b as u64)) * 256 + (c as u64)) * 256 + (d as u64)) * 256 + (e as u64))
-        * 256
-        + (f as u64)
-}
 
 // The extension in a field.
 fn extension_of(n: u64) -> u64
@@ -54,7 +44,7 @@ pub fn read(bytes: &[u8]) -> Reading
     if bytes.len() < 6 {
         return Reading::Refused(41);
     }
-    let n = bits_of(bytes[0], bytes[1], bytes[2], bytes[3], bytes[4], bytes[5]);
+    let n = number_of_six(bytes[0], bytes[1], bytes[2], bytes[3], bytes[4], bytes[5]);
     let extension = extension_of(n);
     if 299 < extension {
         return Reading::Refused(8);

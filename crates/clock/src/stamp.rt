@@ -1,10 +1,9 @@
 // Stamps (PTS, DTS): 33 bits in five bytes, behind a four-bit prefix and with three marker bits.
 ghost use mathlib.Core.Path.{_≡_};
-ghost use mathlib.Core.List.{[], _∷_};
-ghost use Rattle.rules.specs.Number.{numberOf};
 ghost use Rattle.clock.specs.Stamp.{isNoPrefix, isUnmarked, stampOf, stampField};
 ghost use Rattle.clock.specs.Promises.{ReadsStamp, WritesStamp, TellsApart};
 use crate::Written;
+use octets::number_of_five;
 
 // A count of 90 kHz. A number of 2^33 or above can be made, and every call refuses it.
 pub struct Stamp(pub u64);
@@ -29,13 +28,6 @@ fn is_no_prefix(prefix: u8) -> bool
     ensures { λ r. ⌜ r ≡ isNoPrefix prefix ⌝ }
 {
     !((1 <= prefix) & (prefix <= 3))
-}
-
-// The 40 bits of five bytes.
-fn bits_of(a: u8, b: u8, c: u8, d: u8, e: u8) -> u64
-    ensures { λ r. ⌜ r ≡ numberOf (a ∷ b ∷ c ∷ d ∷ e ∷ []) ⌝ }
-{
-    ((((a as u64) * 256 + (b as u64)) * 256 + (c as u64)) * 256 + (d as u64)) * 256 + (e as u64)
 }
 
 // Whether a field lacks this prefix or one of its three markers.
@@ -65,7 +57,7 @@ pub fn read(bytes: &[u8], prefix: u8) -> Reading
     if bytes.len() < 5 {
         return Reading::Refused(41);
     }
-    let n = bits_of(bytes[0], bytes[1], bytes[2], bytes[3], bytes[4]);
+    let n = number_of_five(bytes[0], bytes[1], bytes[2], bytes[3], bytes[4]);
     if is_unmarked(n, prefix) {
         return Reading::Refused(36);
     }

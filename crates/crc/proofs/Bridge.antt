@@ -11,8 +11,8 @@ use lib.Dec.{eqb, lit<}
 use lib.ListN.{length, getD, take, replicate}
 use lib.Seq.{length-take-le}
 use lib.Bits.{bitXor, xor-block, xor-zero-r}
-use Rattle.rules.specs.Walk.{all}
-use Rattle.crc.specs.Figure.{_⊕_, adderBehind, handOn, clock, msbFirst, bitsIn, bytesIn, decoder, right, registerOf, residueOf}
+use Rattle.ground.specs.Walk.{all}
+use Rattle.crc.specs.Figure.{_⊕_, adderBehind, handOn, tick, msbFirst, bitsIn, bytesIn, decoder, right, registerOf, residueOf}
 use Rattle.crc.specs.Claims.{RightResidue}
 use Rattle.crc.specs.Steps.Register.{turnOf, enterBits, enterBytes}
 use Rattle.crc.proofs.Xor.{xor-bit}
@@ -71,9 +71,9 @@ register-top (suc n) (z ∷ zs) h =
     let p = mul-assoc (cond (getD zs n false) 1 0) (2 ^ n) 2 in
     rw (pow-suc 2 n) (omega arith)
 
-length-clock : (z : List Bool) (b : Bool) → length z ≡ 32 → length (clock z b) ≡ 32
-unfolding clock
-length-clock z b h =
+length-tick : (z : List Bool) (b : Bool) → length z ≡ 32 → length (tick z b) ≡ 32
+unfolding tick
+length-tick z b h =
     ap suc (length-handOn (b ⊕ getD z 31 false) (take 31 z) 0 ∙ length-take-le 31 z (omega arith))
 
 entered : (b t : Bool) → bitXor (cond t 1 0) (cond b 1 0) ≡ cond (b ⊕ t) 1 0
@@ -99,9 +99,9 @@ turn-top true zs h =
     ∙ sym (xor-bit (registerOf zs) (taps 0 31) 0 1 (lit< tt) (lit< tt))
     ∙ sym (ap₂ (λ (x y : ℕ). bitXor x (y * 0x04C11DB7)) low top)
 
-clock-turn : (z : List Bool) (b : Bool) → length z ≡ 32 → registerOf (clock z b) ≡ turnOf (bitXor (registerOf z) (cond b 1 0 * 2 ^ 31))
-unfolding clock
-clock-turn z b h =
+tick-turn : (z : List Bool) (b : Bool) → length z ≡ 32 → registerOf (tick z b) ≡ turnOf (bitXor (registerOf z) (cond b 1 0 * 2 ^ 31))
+unfolding tick
+tick-turn z b h =
     let t = getD z 31 false in
     let low = take 31 z in
     let len : length low ≡ 31 = length-take-le 31 z (omega arith) in
@@ -116,8 +116,8 @@ bits-enter : (bs z : List Bool) → length z ≡ 32
     → (registerOf (bitsIn z bs) ≡ enterBits (registerOf z) bs) × (length (bitsIn z bs) ≡ 32)
 bits-enter [] z h = (refl, h)
 bits-enter (b ∷ bs) z h =
-    let rest = bits-enter bs (clock z b) (length-clock z b h) in
-    (rest .0 ∙ ap (λ (v : ℕ). enterBits v bs) (clock-turn z b h), rest .1)
+    let rest = bits-enter bs (tick z b) (length-tick z b h) in
+    (rest .0 ∙ ap (λ (v : ℕ). enterBits v bs) (tick-turn z b h), rest .1)
 
 bytes-enter : (bytes : List ℕ) (z : List Bool) → length z ≡ 32 → registerOf (bytesIn z bytes) ≡ enterBytes (registerOf z) bytes
 bytes-enter [] z h = refl

@@ -1,6 +1,6 @@
 -- The promise is an equation, and the residue is the number of the delay elements.
 -- Assumes nothing.
-use Rattle.rules.proofs.Outcome.{determined}
+use Rattle.ground.proofs.Outcome.{determined}
 use Rattle.crc.specs.Figure.{residueOf}
 use Rattle.crc.specs.Claims.{Claims}
 use Rattle.crc.proofs.Bridge.{right-residue}

@@ -13,11 +13,11 @@ use lib.ListN.{length, getD, drop}
 use lib.Seq.{drop-cons}
 use lib.Pow.{split}
 use lib.Bits.{bitXor, xor-shifted, xor-comm, xor-lt, xor-mod, xor-shr}
-use Rattle.rules.proofs.Test.{both-true}
+use Rattle.ground.proofs.Test.{both-true}
 use Rattle.crc.specs.Figure.{msbFirst}
 use Rattle.crc.specs.Steps.Register.{turnOf, turns, enterBits, enterBytes}
 use Rattle.crc.specs.Steps.Table.{table, entryOf}
-use Rattle.crc.proofs.Entries.{every, at}
+use Rattle.ground.proofs.Entries.{everyEntry, entry-at}
 use Rattle.crc.proofs.Xor.{xor-assoc, xor-shl}
 use Rattle.crc.proofs.Turn.{turns-xor, turns-small, enter-xor}
 
@@ -26,7 +26,7 @@ abbrev rule : ℕ → ℕ → Bool
 rule key entry =
     eqb entry (bitXor (turns 8 (bitXor key 127 * 2 ^ 24)) 255) && eqb (enterBits 0 (msbFirst 8 key)) (turns 8 (key * 2 ^ 24))
 
-holds : every rule 0 table ≡ true
+holds : everyEntry rule 0 table ≡ true
 unfolding turnOf
 holds = refl
 
@@ -34,7 +34,7 @@ rule-at : (key : ℕ) → key < 256
     → (entryOf key ≡ bitXor (turns 8 (bitXor key 127 * 2 ^ 24)) 255) × (enterBits 0 (msbFirst 8 key) ≡ turns 8 (key * 2 ^ 24))
 rule-at key h =
     let t = both-true (eqb (entryOf key) (bitXor (turns 8 (bitXor key 127 * 2 ^ 24)) 255)) (eqb (enterBits 0 (msbFirst 8 key)) (turns 8 (key * 2 ^ 24)))
-    (at rule table 0 holds key h) in (
+    (entry-at rule table 0 holds key h) in (
       eqb-true (entryOf key) (bitXor (turns 8 (bitXor key 127 * 2 ^ 24)) 255) (t .0),
       eqb-true (enterBits 0 (msbFirst 8 key)) (turns 8 (key * 2 ^ 24)) (t .1),
     )

@@ -4,7 +4,7 @@ use mathlib.Core.Bool.{true}
 use mathlib.Core.List.{List, [], _∷_}
 use Prim.Native.Nat.{ℕ}
 use lib.Dec.{eqb}
-use Rattle.rules.specs.Outcome.{Determined}
+use Rattle.ground.specs.Outcome.{Determined}
 use Rattle.crc.specs.Figure.{right, residueOf}
 use Rattle.crc.specs.Promises.{GivesResidue}
 

@@ -4,8 +4,8 @@ use mathlib.Core.List.{List, [], _∷_}
 use Prim.Native.Nat.{ℕ, zero, suc, _+_, _*_}
 use lib.Dec.{eqb, ltb}
 use lib.ListN.{getD, take, replicate}
-use Rattle.rules.specs.Walk.{count, all}
-use Rattle.rules.specs.Number.{bits}
+use Rattle.ground.specs.Walk.{count, all}
+use Rattle.ground.specs.Number.{bits}
 
 -- An adder modulo 2
 infixl 60 _⊕_
@@ -27,8 +27,8 @@ handOn feedback i [] = []
 handOn feedback i (z ∷ zs) = cond (adderBehind i) (z ⊕ feedback) z ∷ handOn feedback (suc i) zs
 
 -- One bit goes in: the input adder's sum with z(31) is the feedback, which z(0) takes; every other element takes what the one before it hands on
-unfoldable pub clock : List Bool → Bool → List Bool
-clock z input = let feedback = input ⊕ getD z 31 false in feedback ∷ handOn feedback 0 (take 31 z)
+unfoldable pub tick : List Bool → Bool → List Bool
+tick z input = let feedback = input ⊕ getD z 31 false in feedback ∷ handOn feedback 0 (take 31 z)
 
 -- The last k bits of a number, most significant first
 abbrev pub msbFirst : ℕ → ℕ → List Bool
@@ -38,7 +38,7 @@ msbFirst (suc k) n = eqb (bits n k 1) 1 ∷ msbFirst k n
 -- Bits go in one after the other
 abbrev pub bitsIn : List Bool → List Bool → List Bool
 bitsIn z [] = z
-bitsIn z (b ∷ bs) = bitsIn (clock z b) bs
+bitsIn z (b ∷ bs) = bitsIn (tick z b) bs
 
 -- Bytes go in one after the other, the most significant bit of each first
 abbrev pub bytesIn : List Bool → List ℕ → List Bool

@@ -5,32 +5,32 @@ use mathlib.Core.Bool.{Bool, true, false, cond}
 use mathlib.Core.List.{List, [], _++_}
 use mathlib.Core.Logic.{_↔_}
 use Prim.Native.Nat.{ℕ}
-use Rattle.rules.specs.Answer.{Answer, refused, given}
-use Rattle.rules.specs.Outcome.{Determined}
-use Rattle.rules.specs.Refusal.{Row, Silent, ExactCall, judge}
-use Rattle.rules.proofs.Answer.{given-same}
-use Rattle.rules.proofs.Judged.{exact-call, judge-append}
-use Rattle.rules.proofs.Outcome.{determined, determined-told}
-use Rattle.rules.proofs.Refusal as table
+use Rattle.ground.specs.Answer.{Answer, refused, given}
+use Rattle.ground.specs.Outcome.{Determined}
+use Rattle.ground.specs.Refusal.{Row, Silent, ExactCall, judge}
+use Rattle.ground.proofs.Answer.{given-same}
+use Rattle.ground.proofs.Judged.{exact-call, judge-append}
+use Rattle.ground.proofs.Outcome.{determined, determined-told}
+use Rattle.ground.proofs.Refusal as table
 use Rattle.driver.specs.State.{fresh, areaOf}
 use Rattle.driver.specs.Open as opens
 use Rattle.driver.specs.Close as closes
 use Rattle.driver.specs.Packet as packets
-use Rattle.driver.specs.Packet.{Said, After, pidOf, firstRefusals, lastRefusals, outcome, putBack, report, placesOn, still, unwanted, afterReading, packetOf}
+use Rattle.driver.specs.Packet.{Said, AfterPacket, pidOf, firstRefusals, lastRefusals, outcome, putBack, report, placesOn, asGiven, unwanted, afterReading, packetOf}
 use Rattle.driver.specs.Promises.{OpensFilter, ClosesFilter, HandlesPacket}
 use Rattle.driver.specs.Claims.{hasNoArea, handlingRefusals, Claims}
-use Rattle.driver.specs.declared.State.{State}
-use Rattle.driver.specs.declared.Opened as o
-use Rattle.driver.specs.declared.Opening as oa
-use Rattle.driver.specs.declared.Opening.the-variants as opening
-use Rattle.driver.specs.declared.AfterClose as c
-use Rattle.driver.specs.declared.Closing as ca
-use Rattle.driver.specs.declared.Closing.the-variants as closing
-use Rattle.driver.specs.declared.Handled as h
-use Rattle.driver.specs.declared.Handling as ha
-use Rattle.driver.specs.declared.Handling.the-variants as handling
+use Rattle.driver.specs.declared.state.State.{State}
+use Rattle.driver.specs.declared.open_call.Opened as o
+use Rattle.driver.specs.declared.open_call.Opening as oa
+use Rattle.driver.specs.declared.open_call.Opening.the-variants as opening
+use Rattle.driver.specs.declared.close_call.Closed as c
+use Rattle.driver.specs.declared.close_call.Closing as ca
+use Rattle.driver.specs.declared.close_call.Closing.the-variants as closing
+use Rattle.driver.specs.declared.packet_call.Handled as h
+use Rattle.driver.specs.declared.packet_call.Handling as ha
+use Rattle.driver.specs.declared.packet_call.Handling.the-variants as handling
 use Rattle.driver.proofs.Limits.{packet-limits}
-use Rattle.driver.proofs.Keeps.{fresh-sound, open-sound, close-sound, packet-sound, packet-own-area}
+use Rattle.driver.proofs.StaysSound.{fresh-sound, open-sound, close-sound, packet-sound, packet-own-area}
 
 -- ---- open
 abbrev openingMade : Answer opens.Place → oa.Opening
@@ -44,11 +44,11 @@ opening-back (opening.Refused n) = refl
 abbrev openedMade : opens.AfterOpen → o.Opened
 openedMade a = record { state = a .state; answer = openingMade (a .answer) }
 
-opened-back : (x : o.Opened) → openedMade (opens.told x) ≡ x
+opened-back : (x : o.Opened) → openedMade (opens.toldOpened x) ≡ x
 opened-back x = ap (λ (a : oa.Opening). record { state = x .state; answer = a }) (opening-back (x .answer))
 
 opens-filter : (s : State) (pid : ℕ) → Determined (OpensFilter s pid)
-opens-filter s pid = determined-told opens.told openedMade opened-back (opens.openOf s pid)
+opens-filter s pid = determined-told opens.toldOpened openedMade opened-back (opens.openOf s pid)
 
 -- ---- close
 abbrev closingMade : Answer (Unit {0}) → ca.Closing
@@ -59,14 +59,14 @@ closing-back : (a : ca.Closing) → closingMade (closes.toldClosing a) ≡ a
 closing-back closing.Closed = refl
 closing-back (closing.Refused n) = refl
 
-abbrev closedMade : closes.Outcome → c.AfterClose
+abbrev closedMade : closes.AfterClose → c.Closed
 closedMade a = record { state = a .state; answer = closingMade (a .answer) }
 
-closed-back : (x : c.AfterClose) → closedMade (closes.told x) ≡ x
+closed-back : (x : c.Closed) → closedMade (closes.toldClosed x) ≡ x
 closed-back x = ap (λ (a : ca.Closing). record { state = x .state; answer = a }) (closing-back (x .answer))
 
 closes-filter : (s : State) (number : ℕ) → Determined (ClosesFilter s number)
-closes-filter s number = determined-told closes.told closedMade closed-back (closes.closeOf s number)
+closes-filter s number = determined-told closes.toldClosed closedMade closed-back (closes.closeOf s number)
 
 -- ---- the packet call: its outcome is its answer with the state, the store and the output
 abbrev handlingMade : Answer packets.Said → ha.Handling
@@ -84,10 +84,10 @@ handling-back (handling.Refused n) = refl
 abbrev Whole : Type 0
 Whole = h.Handled × List ℕ × List ℕ
 
-abbrev wholeTold : Whole → packets.After
-wholeTold w = packets.told (w .0) (w .1) (w .2)
+abbrev wholeTold : Whole → packets.AfterPacket
+wholeTold w = packets.toldHandled (w .0) (w .1) (w .2)
 
-abbrev wholeMade : packets.After → Whole
+abbrev wholeMade : packets.AfterPacket → Whole
 wholeMade a = (record { state = a .state; answer = handlingMade (a .answer) }, a .store, a .out)
 
 whole-back : (w : Whole) → wholeMade (wholeTold w) ≡ w
@@ -103,24 +103,24 @@ unfolding opens.openOf
 exact-open s pid = exact-call (λ (x : opens.AfterOpen). x .answer) (λ n. record { answer = refused n; state = s }) (λ n. refl) (opens.openRefusals s pid) _ _ refl
 
 exact-close : (s : State) (number : ℕ)
-    → ExactCall (closes.closeRefusals s number) (λ (x : closes.Outcome). x .answer) (λ n. record { answer = refused n; state = s }) (closes.closeOf s number)
+    → ExactCall (closes.closeRefusals s number) (λ (x : closes.AfterClose). x .answer) (λ n. record { answer = refused n; state = s }) (closes.closeOf s number)
 unfolding closes.closeOf
 exact-close s number =
-    exact-call (λ (x : closes.Outcome). x .answer) (λ n. record { answer = refused n; state = s }) (λ n. refl) (closes.closeRefusals s number) _ _ refl
+    exact-call (λ (x : closes.AfterClose). x .answer) (λ n. record { answer = refused n; state = s }) (λ n. refl) (closes.closeRefusals s number) _ _ refl
 
 module _ (s : State) (p store out : List ℕ) where
   abbrev own : ℕ
   own = areaOf (pidOf p) (s .areas)
 
-  abbrev refuse : ℕ → After
-  refuse n = still s store out (refused n)
+  abbrev refuse : ℕ → AfterPacket
+  refuse n = asGiven s store out (refused n)
 
-  abbrev done : After
+  abbrev done : AfterPacket
   done = putBack s own (outcome s own p store) store out
 
   -- what is answered, and by which rows, past the first table
-  abbrev past : Bool → After
-  past b = cond b (still s store out (given unwanted)) done
+  abbrev past : Bool → AfterPacket
+  past b = cond b (asGiven s store out (given unwanted)) done
 
   abbrev rows : Bool → List Row
   rows b = cond b [] (lastRefusals s own p store)
@@ -132,33 +132,33 @@ module _ (s : State) (p store out : List ℕ) where
       ap (judge refuse (firstRefusals s p store out)) (go (hasNoArea s p))
       ∙ sym (judge-append refuse (firstRefusals s p store out) (rows (hasNoArea s p)) (past (hasNoArea s p)))
     where
-      go : (b : Bool) → cond b (still s store out (given unwanted)) (judge refuse (lastRefusals s own p store) done) ≡ judge refuse (rows b) (past b)
+      go : (b : Bool) → cond b (asGiven s store out (given unwanted)) (judge refuse (lastRefusals s own p store) done) ≡ judge refuse (rows b) (past b)
       go true = refl
       go false = refl
 
-  exact-packet : ExactCall (handlingRefusals s p store out) (λ (x : After). x .answer) (λ n. still s store out (refused n)) (packetOf s p store out)
-  exact-packet = rw one-table (exact-call (λ (x : After). x .answer) refuse (λ n. refl) (handlingRefusals s p store out) (past (hasNoArea s p)) _ (go (hasNoArea s p)))
+  exact-packet : ExactCall (handlingRefusals s p store out) (λ (x : AfterPacket). x .answer) (λ n. asGiven s store out (refused n)) (packetOf s p store out)
+  exact-packet = rw one-table (exact-call (λ (x : AfterPacket). x .answer) refuse (λ n. refl) (handlingRefusals s p store out) (past (hasNoArea s p)) _ (go (hasNoArea s p)))
     where
       go : (b : Bool) → past b .answer ≡ given (cond b unwanted (report (outcome s own p store) (placesOn own (s .filters))))
       go true = refl
       go false = refl
 
-  unwanted-exactly : (packetOf s p store out ≡ still s store out (given unwanted)) ↔ (Silent (firstRefusals s p store out) × (hasNoArea s p ≡ true))
+  unwanted-exactly : (packetOf s p store out ≡ asGiven s store out (given unwanted)) ↔ (Silent (firstRefusals s p store out) × (hasNoArea s p ≡ true))
   unfolding packetOf
   unwanted-exactly = (forth, back)
     where
       -- a wanted packet is not told as one that is not
-      told-apart : (b : Bool) → past b ≡ still s store out (given unwanted) → b ≡ true
+      told-apart : (b : Bool) → past b ≡ asGiven s store out (given unwanted) → b ≡ true
       told-apart true e = refl
-      told-apart false e = sym (ap (λ (r : Said). r .wanted) (given-same (ap (λ (x : After). x .answer) e)))
+      told-apart false e = sym (ap (λ (r : Said). r .wanted) (given-same (ap (λ (x : AfterPacket). x .answer) e)))
 
-      forth : packetOf s p store out ≡ still s store out (given unwanted) → Silent (firstRefusals s p store out) × (hasNoArea s p ≡ true)
+      forth : packetOf s p store out ≡ asGiven s store out (given unwanted) → Silent (firstRefusals s p store out) × (hasNoArea s p ≡ true)
       forth q =
-          let none = exact-packet .table .none .0 (unwanted, ap (λ (x : After). x .answer) q) in
+          let none = exact-packet .table .none .0 (unwanted, ap (λ (x : AfterPacket). x .answer) q) in
           let same = sym (table.accepted refuse (past (hasNoArea s p)) (handlingRefusals s p store out) none) ∙ sym one-table ∙ q in
           (table.silent-both (firstRefusals s p store out) (rows (hasNoArea s p)) none .0, told-apart (hasNoArea s p) same)
 
-      back : Silent (firstRefusals s p store out) × (hasNoArea s p ≡ true) → packetOf s p store out ≡ still s store out (given unwanted)
+      back : Silent (firstRefusals s p store out) × (hasNoArea s p ≡ true) → packetOf s p store out ≡ asGiven s store out (given unwanted)
       back q = table.accepted refuse (afterReading s own p store out) (firstRefusals s p store out) (q .0) ∙ rw (q .1)
 
 pub claims : Claims

@@ -9,14 +9,14 @@ use native.Mathlib.Omega.{arith}
 use borrow.Author.Tests.{leb-true, le-leb, not-true, eqb-false}
 use lib.Dec.{leb, ltb, eqb}
 use lib.ListN.{length, getD}
-use Rattle.rules.specs.Walk.{all, apart, count}
-use Rattle.rules.proofs.Test.{both-true}
-use Rattle.rules.proofs.Walk.{count-le, all-at, passes-inside}
+use Rattle.ground.specs.Walk.{all, apart, count}
+use Rattle.ground.proofs.Test.{both-true}
+use Rattle.ground.proofs.Walk.{count-le, all-at, passes-inside}
 use Rattle.gather.specs.Memory.{soundMarks}
 use Rattle.driver.specs.State.{standsOn, freeArea, freeFilter, isOpen, isUsed}
 use Rattle.driver.specs.Sound.{sound, soundArea, isZeroArea, soundFilter, soundNext, samePid, sameNumber, counted}
-use Rattle.driver.specs.declared.Area.{Area}
-use Rattle.driver.specs.declared.State.{State}
+use Rattle.driver.specs.declared.state.Area.{Area}
+use Rattle.driver.specs.declared.state.State.{State}
 use Rattle.driver.proofs.Tally.{counted-at}
 
 -- ---- one area

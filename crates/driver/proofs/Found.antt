@@ -7,11 +7,11 @@ use Prim.Native.Nat.{ℕ, _<_}
 use borrow.Author.Tests.{eqb-true, eq-eqb}
 use lib.Dec.{eqb}
 use lib.ListN.{length, getD}
-use Rattle.rules.proofs.Test.{both-true, true-both}
-use Rattle.rules.proofs.Walk.{find-passes}
+use Rattle.ground.proofs.Test.{both-true, true-both}
+use Rattle.ground.proofs.Walk.{find-passes}
 use Rattle.driver.specs.State.{isUsed, isOpen, hasPid, areaOf, placeOf, freeArea, freeFilter}
-use Rattle.driver.specs.declared.Area.{Area}
-use Rattle.driver.specs.declared.Filter.{Filter}
+use Rattle.driver.specs.declared.state.Area.{Area}
+use Rattle.driver.specs.declared.state.Filter.{Filter}
 
 pub has-pid : (pid : ℕ) (a : Area) → isUsed a ≡ true → a .pid .0 ≡ pid → hasPid pid a ≡ true
 has-pid pid a u e = true-both (isUsed a) (eqb (a .pid .0) pid) u (eq-eqb (a .pid .0) pid e)

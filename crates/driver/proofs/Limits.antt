@@ -5,15 +5,15 @@ use mathlib.Core.List.{List}
 use Prim.Native.Nat.{ℕ}
 use native.Mathlib.Omega.{arith}
 use lib.ListN.{getD}
-use Rattle.rules.specs.Answer.{given}
-use Rattle.rules.proofs.Answer.{given-apart, given-same}
+use Rattle.ground.specs.Answer.{given}
+use Rattle.ground.proofs.Answer.{given-apart, given-same}
 use Rattle.gather.specs.Memory.{stateOf}
-use Rattle.gather.proofs.Laws.{rule-keeps}
-use Rattle.driver.specs.State.{areaOf, baseOf, freeArea}
-use Rattle.driver.specs.Packet.{Said, After, pidOf, packetFrom, placesOn, outcome, report, unwanted, packetOf}
+use Rattle.gather.proofs.RuleKeeps.{rule-keeps}
+use Rattle.driver.specs.State.{areaOf, areaStart, freeArea}
+use Rattle.driver.specs.Packet.{Said, AfterPacket, pidOf, packetFrom, placesOn, outcome, report, unwanted, packetOf}
 use Rattle.driver.specs.Claims.{Limits}
-use Rattle.driver.specs.declared.State.{State}
-use Rattle.driver.proofs.Ways.{Handles, packet-ind}
+use Rattle.driver.specs.declared.state.State.{State}
+use Rattle.driver.proofs.Cases.{Handles, packet-ind}
 
 nothing : Limits unwanted
 nothing = record { sections = omega arith; bytes = omega arith; givenUp = omega arith }
@@ -22,12 +22,12 @@ module _ (s : State) (p store out : List ℕ) where
   reported : Handles s p store out → Limits (report (outcome s (areaOf (pidOf p) (s .areas)) p store) (placesOn (areaOf (pidOf p) (s .areas)) (s .filters)))
   reported h =
       let i = areaOf (pidOf p) (s .areas) in
-      let kept = rule-keeps (stateOf (getD (s .areas) i freeArea .marks) store (baseOf i)) (packetFrom p) (h .agrees) in
+      let kept = rule-keeps (stateOf (getD (s .areas) i freeArea .marks) store (areaStart i)) (packetFrom p) (h .agrees) in
       record { sections = kept .count (h .short); bytes = kept .bytes (h .short); givenUp = kept .two }
 
   pub packet-limits : (r : Said) → packetOf s p store out .answer ≡ given r → Limits r
   packet-limits =
-      packet-ind s p store out (λ (a : After). (r : Said) → a .answer ≡ given r → Limits r)
+      packet-ind s p store out (λ (a : AfterPacket). (r : Said) → a .answer ≡ given r → Limits r)
       (λ n _ _ r e. absurd (given-apart (sym e)))
       (λ _ r e. rw (← given-same e) nothing)
       (λ h r e. rw (← given-same e) (reported h))

@@ -7,40 +7,40 @@ use Prim.Native.Nat.{ℕ, _≤_, _<_}
 use borrow.Author.Tests.{le-leb, lt-leb, ltb-false, eqb-true, not-false}
 use lib.Dec.{eqb, ltb}
 use lib.ListN.{length}
-use Rattle.rules.specs.Answer.{refused, given}
-use Rattle.rules.specs.Refusal.{Silent}
-use Rattle.rules.proofs.Judged.{refused-by}
-use Rattle.rules.proofs.Refusal as table
-use Rattle.rules.proofs.Test.{neither}
+use Rattle.ground.specs.Answer.{refused, given}
+use Rattle.ground.specs.Refusal.{Silent}
+use Rattle.ground.proofs.Judged.{refused-by}
+use Rattle.ground.proofs.Refusal as table
+use Rattle.ground.proofs.Test.{neither}
 use Rattle.packet.specs.Packet.{contents, readPacket, packetRefusals}
 use Rattle.driver.specs.State.{areaOf}
 use Rattle.driver.specs.Sound.{sound}
-use Rattle.driver.specs.Packet.{packetOf, still, unwanted, isWrongSize, pidOf, afterReading, afterTests}
-use Rattle.driver.specs.declared.State.{State}
+use Rattle.driver.specs.Packet.{packetOf, asGiven, unwanted, isWrongSize, pidOf, afterReading, afterTests}
+use Rattle.driver.specs.declared.state.State.{State}
 
 module _ (s : State) (p store out : List ℕ) where
-  pub packet-unsound : sound s ≡ false → packetOf s p store out ≡ still s store out (refused 1)
+  pub packet-unsound : sound s ≡ false → packetOf s p store out ≡ asGiven s store out (refused 1)
   unfolding packetOf
   packet-unsound e = rw e
 
-  pub packet-sizes : sound s ≡ true → isWrongSize store out ≡ true → packetOf s p store out ≡ still s store out (refused 3)
+  pub packet-sizes : sound s ≡ true → isWrongSize store out ≡ true → packetOf s p store out ≡ asGiven s store out (refused 3)
   unfolding packetOf
   packet-sizes e w = rw (e, w)
 
-  pub packet-refused : (n : ℕ) → sound s ≡ true → isWrongSize store out ≡ false → readPacket p ≡ refused n → packetOf s p store out ≡ still s store out (refused n)
+  pub packet-refused : (n : ℕ) → sound s ≡ true → isWrongSize store out ≡ false → readPacket p ≡ refused n → packetOf s p store out ≡ asGiven s store out (refused n)
   unfolding packetOf
   packet-refused n e w r =
       rw (e, w)
-      (table.refused (λ n. still s store out (refused n)) (afterReading s (areaOf (pidOf p) (s .areas)) p store out) n (packetRefusals p) (refused-by (packetRefusals p) (contents p) n r))
+      (table.refused (λ n. asGiven s store out (refused n)) (afterReading s (areaOf (pidOf p) (s .areas)) p store out) n (packetRefusals p) (refused-by (packetRefusals p) (contents p) n r))
 
   pub packet-read : sound s ≡ true → isWrongSize store out ≡ false → Silent (packetRefusals p)
       → packetOf s p store out ≡ afterReading s (areaOf (pidOf p) (s .areas)) p store out
   unfolding packetOf
-  packet-read e w r = rw (e, w) (table.accepted (λ n. still s store out (refused n)) (afterReading s (areaOf (pidOf p) (s .areas)) p store out) (packetRefusals p) r)
+  packet-read e w r = rw (e, w) (table.accepted (λ n. asGiven s store out (refused n)) (afterReading s (areaOf (pidOf p) (s .areas)) p store out) (packetRefusals p) r)
 
 -- the area decides whether the packet is wanted
 module _ (s : State) (i : ℕ) (p store out : List ℕ) where
-  pub reading-unwanted : length (s .areas) ≤ i → afterReading s i p store out ≡ still s store out (given unwanted)
+  pub reading-unwanted : length (s .areas) ≤ i → afterReading s i p store out ≡ asGiven s store out (given unwanted)
   reading-unwanted h = rw (le-leb (length (s .areas)) i h)
 
   pub reading-wanted : i < length (s .areas) → afterReading s i p store out ≡ afterTests s i p store out

@@ -6,10 +6,10 @@ use Prim.Native.Nat.{ℕ, _^_, _≤_, _<_}
 use native.Mathlib.Omega.{arith}
 use lib.ListN.{length, drop, length-drop}
 use lib.Pow.{pow-mono}
-use Rattle.rules.proofs.Set.{set-lt}
+use Rattle.ground.proofs.Set.{set-lt}
 use Rattle.driver.specs.State.{standsOn}
 use Rattle.driver.specs.Packet.{placesOn}
-use Rattle.driver.specs.declared.Filter.{Filter}
+use Rattle.driver.specs.declared.state.Filter.{Filter}
 
 pub places-room : (a : ℕ) (l : List Filter) (i : ℕ) → length l ≡ 32 → 0 < i → placesOn a (drop i l) < 2 ^ 31
 places-room a l i long some =

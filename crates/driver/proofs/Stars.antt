@@ -6,16 +6,16 @@ use mathlib.Core.List.{List, [], _∷_}
 use Prim.Native.Nat.{ℕ, _≤_}
 use lib.Dec.{leb, eqb}
 use lib.ListN.{length, getD, length-append}
-use Rattle.driver.specs.declared.Area.{Area}
+use Rattle.driver.specs.declared.state.Area.{Area}
 use native.Mathlib.Omega.{arith}
 use borrow.Author.Tests.{eq-eqb, le-ltb, le-leb, lt-leb, ltb-true, not-true}
-use Rattle.rules.specs.Walk.{all, Every}
-use Rattle.rules.proofs.Walk.{find-none, all-at}
-use Rattle.rules.proofs.Write.{put-nil}
+use Rattle.ground.specs.Walk.{all, Every}
+use Rattle.ground.proofs.Walk.{find-none, all-at}
+use Rattle.ground.proofs.Write.{put-nil}
 use Rattle.gather.proofs.Stars as gathering
 use Rattle.driver.specs.State.{isUsed, areaOf, freePlaceOf, freeArea}
 use Rattle.driver.specs.Sound.{sound}
-use Rattle.driver.specs.Open.{isHeld, areaFor, openOf}
+use Rattle.driver.specs.Open.{hasArea, areaFor, openOf}
 use Rattle.driver.specs.Packet.{packetOf, isWrongSize}
 use Rattle.driver.specs.Stars.{Right, cases, eightTaken, lastByteHeld}
 
@@ -24,12 +24,12 @@ sizes : (store out : List ℕ) → length store ≡ 32768 → 4278 ≤ length ou
 sizes store out l o = rw (eq-eqb (length store) 32768 l, le-ltb (length out) 4278 o)
 
 -- where all areas are taken an open finds none for a PID that has none
-none-free : (pid : ℕ) (areas : List Area) → all isUsed areas ≡ true → isHeld pid areas ≡ false → leb (length areas) (areaFor pid areas) ≡ true
+none-free : (pid : ℕ) (areas : List Area) → all isUsed areas ≡ true → hasArea pid areas ≡ false → leb (length areas) (areaFor pid areas) ≡ true
 none-free pid areas used none =
     let full = find-none (λ (a : Area). eqb (a .users) 0) areas freeArea (λ i b. not-true (eqb (getD areas i freeArea .users) 0) (all-at isUsed areas freeArea used i b)) in
     rw (none, full) (le-leb (length areas) (length areas) (omega arith))
 
-own-found : (pid : ℕ) (areas : List Area) → isHeld pid areas ≡ true → leb (length areas) (areaFor pid areas) ≡ false
+own-found : (pid : ℕ) (areas : List Area) → hasArea pid areas ≡ true → leb (length areas) (areaFor pid areas) ≡ false
 own-found pid areas held = rw held (lt-leb (length areas) (areaOf pid areas) (ltb-true (areaOf pid areas) (length areas) held))
 
 eight-taken : Right eightTaken

@@ -12,14 +12,14 @@ use native.Mathlib.Decide.{ℕ-discrete, decLt}
 use lib.Dec.{eqb, ltb, lit<}
 use lib.ListN.{length, drop, getD, set, replicate, getD-replicate, length-set, drop-of-length-le, List·getD-eq-default}
 use lib.Seq.{drop-cons, getD-set-same, getD-set-other}
-use Rattle.rules.specs.Walk.{all, apart, count}
-use Rattle.rules.proofs.Test.{both-true, true-both, neither}
-use Rattle.rules.proofs.Walk.{all-at, all-of, all-goes, all-ends, apart-of, total-turn, total-at, count-le}
+use Rattle.ground.specs.Walk.{all, apart, count}
+use Rattle.ground.proofs.Test.{both-true, true-both, neither}
+use Rattle.ground.proofs.Walk.{all-at, all-of, all-goes, all-ends, apart-of, total-turn, total-at, count-le}
 use Rattle.driver.specs.State.{isOpen, isUsed, standsOn, freeArea, freeFilter}
 use Rattle.driver.specs.Sound.{soundFilter, counted, sameNumber}
 use Rattle.driver.specs.Steps.Tally.{agree, fitsPlace, countedIn, metIn, isMet, classOf}
-use Rattle.driver.specs.declared.Area.{Area}
-use Rattle.driver.specs.declared.Filter.{Filter}
+use Rattle.driver.specs.declared.state.Area.{Area}
+use Rattle.driver.specs.declared.state.Filter.{Filter}
 
 -- ---- counts and users
 pub agree-turn : (counts : List ℕ) (areas : List Area) (i : ℕ) → i < length counts → i < length areas

@@ -6,18 +6,19 @@ use mathlib.Core.Logic.{_↔_, _⊎_}
 use Prim.Native.Nat.{ℕ, _+_, _≤_}
 use lib.Dec.{leb}
 use lib.ListN.{length, getD}
-use Rattle.rules.specs.Answer.{refused, given}
-use Rattle.rules.specs.Outcome.{Determined}
-use Rattle.rules.specs.Refusal.{Row, Silent, ExactCall}
+use Rattle.ground.specs.House.{areaBytes, leastOutput}
+use Rattle.ground.specs.Answer.{refused, given}
+use Rattle.ground.specs.Outcome.{Determined}
+use Rattle.ground.specs.Refusal.{Row, Silent, ExactCall}
 use Rattle.gather.specs.Memory.{stretch}
-use Rattle.driver.specs.State.{baseOf, areaOf, freeArea, fresh}
+use Rattle.driver.specs.State.{areaStart, areaOf, freeArea, fresh}
 use Rattle.driver.specs.Sound.{sound}
 use Rattle.driver.specs.Open as opening
 use Rattle.driver.specs.Close as closing
 use Rattle.driver.specs.Packet as handling
-use Rattle.driver.specs.Packet.{Said, After, pidOf, firstRefusals, lastRefusals, packetOf}
+use Rattle.driver.specs.Packet.{Said, AfterPacket, pidOf, firstRefusals, lastRefusals, packetOf}
 use Rattle.driver.specs.Promises.{MakesFresh, OpensFilter, ClosesFilter, HandlesPacket}
-use Rattle.driver.specs.declared.State.{State}
+use Rattle.driver.specs.declared.state.State.{State}
 
 -- the packet's PID has no area
 abbrev pub hasNoArea : State → List ℕ → Bool
@@ -28,19 +29,19 @@ abbrev pub handlingRefusals : State → List ℕ → List ℕ → List ℕ → L
 handlingRefusals s p store out = firstRefusals s p store out ++ cond (hasNoArea s p) [] (lastRefusals s (areaOf (pidOf p) (s .areas)) p store)
 
 -- nothing but area i of the state and of the store has changed
-pub record OnlyArea (i : ℕ) (s : State) (store : List ℕ) (o : After) : Type 0 where
+pub record OnlyArea (i : ℕ) (s : State) (store : List ℕ) (o : AfterPacket) : Type 0 where
   pub filters : o .state .filters ≡ s .filters
   pub next : o .state .next ≡ s .next
   pub areas : (j : ℕ) → (j ≡ i → ⊥) → getD (o .state .areas) j freeArea ≡ getD (s .areas) j freeArea
   pub size : length (o .store) ≡ length store
-  pub elsewhere : (from n : ℕ) → (from + n ≤ baseOf i) ⊎ (baseOf i + 4096 ≤ from) → stretch n (o .store) from ≡ stretch n store from
+  pub elsewhere : (from n : ℕ) → (from + n ≤ areaStart i) ⊎ (areaStart i + areaBytes ≤ from) → stretch n (o .store) from ≡ stretch n store from
 
 -- what is said of a packet that is not refused stays within these limits
 pub record Limits (r : Said) : Type 0 where
   -- "their number (at most 61)"
   pub sections : r .sections ≤ 61
   -- the output buffer of 4,278 bytes serves
-  pub bytes : r .bytes ≤ 4278
+  pub bytes : r .bytes ≤ leastOutput
   -- "how many sections were given up (0 to 2)"
   pub givenUp : r .givenUp ≤ 2
 
@@ -54,12 +55,12 @@ pub record Claims : Type 0 where
   pub exactOpen : (s : State) (pid : ℕ)
       → ExactCall (opening.openRefusals s pid) (λ (o : opening.AfterOpen). o .answer) (λ n. record { answer = refused n; state = s }) (opening.openOf s pid)
   pub exactClose : (s : State) (number : ℕ)
-      → ExactCall (closing.closeRefusals s number) (λ (o : closing.Outcome). o .answer) (λ n. record { answer = refused n; state = s }) (closing.closeOf s number)
+      → ExactCall (closing.closeRefusals s number) (λ (o : closing.AfterClose). o .answer) (λ n. record { answer = refused n; state = s }) (closing.closeOf s number)
   pub exactPacket : (s : State) (p store out : List ℕ)
-      → ExactCall (handlingRefusals s p store out) (λ (o : After). o .answer) (λ n. handling.still s store out (refused n)) (packetOf s p store out)
+      → ExactCall (handlingRefusals s p store out) (λ (o : AfterPacket). o .answer) (λ n. handling.asGiven s store out (refused n)) (packetOf s p store out)
   -- "then, if the PID has no area, the answer "not wanted" (counts, marks and set 0, nothing written)": exactly then
   pub unwanted : (s : State) (p store out : List ℕ)
-      → (packetOf s p store out ≡ handling.still s store out (given handling.unwanted)) ↔ (Silent (firstRefusals s p store out) × (hasNoArea s p ≡ true))
+      → (packetOf s p store out ≡ handling.asGiven s store out (given handling.unwanted)) ↔ (Silent (firstRefusals s p store out) × (hasNoArea s p ≡ true))
   pub limits : (s : State) (p store out : List ℕ) (r : Said) → packetOf s p store out .answer ≡ given r → Limits r
   -- a fresh state is sound, and a call leaves a sound state sound
   pub soundFresh : sound fresh ≡ true

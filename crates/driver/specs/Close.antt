@@ -4,15 +4,15 @@ use mathlib.Core.List.{List, [], _∷_}
 use Prim.Native.Nat.{ℕ, _-_}
 use lib.Dec.{leb, eqb}
 use lib.ListN.{length, getD, set}
-use Rattle.rules.specs.Answer.{Answer, refused, given}
-use Rattle.rules.specs.Refusal.{Row, judge, _when_}
+use Rattle.ground.specs.Answer.{Answer, refused, given}
+use Rattle.ground.specs.Refusal.{Row, judge, _when_}
 use Rattle.driver.specs.State.{placeOf, freeArea, freeFilter}
 use Rattle.driver.specs.Sound.{sound}
-use Rattle.driver.specs.declared.Area.{Area}
-use Rattle.driver.specs.declared.State.{State}
-use Rattle.driver.specs.declared.AfterClose as after
-use Rattle.driver.specs.declared.Closing.{Closing}
-use Rattle.driver.specs.declared.Closing.the-variants as closing
+use Rattle.driver.specs.declared.state.Area.{Area}
+use Rattle.driver.specs.declared.state.State.{State}
+use Rattle.driver.specs.declared.close_call.Closed as after
+use Rattle.driver.specs.declared.close_call.Closing.{Closing}
+use Rattle.driver.specs.declared.close_call.Closing.the-variants as closing
 
 -- what a close says in document 01's terms
 abbrev pub toldClosing : Closing → Answer (Unit {0})
@@ -20,20 +20,20 @@ toldClosing closing.Closed = given tt
 toldClosing (closing.Refused n) = refused n
 
 -- the answer, and the state after it
-pub record Outcome : Type 0 where
+pub record AfterClose : Type 0 where
   pub answer : Answer (Unit {0})
   pub state : State
 
-abbrev pub told : after.AfterClose → Outcome
-told o = record { answer = toldClosing (o .answer); state = o .state }
+abbrev pub toldClosed : after.Closed → AfterClose
+toldClosed o = record { answer = toldClosing (o .answer); state = o .state }
 
 -- "Close: 1, 16"
 abbrev pub closeRefusals : State → ℕ → List Row
 closeRefusals s number = (1 when not (sound s)) ∷ (16 when leb (length (s .filters)) (placeOf number (s .filters))) ∷ []
 
 -- "the last close on a PID frees the area and forgets its held bytes and counter"
-abbrev pub left : Area → Area
-left a = cond (eqb (a .users) 1) freeArea (record { pid = a .pid; users = a .users - 1; marks = a .marks })
+abbrev pub withoutUser : Area → Area
+withoutUser a = cond (eqb (a .users) 1) freeArea (record { pid = a .pid; users = a .users - 1; marks = a .marks })
 
 -- the area of the filter at a place
 abbrev pub areaAt : State → ℕ → ℕ
@@ -43,12 +43,12 @@ areaAt s place = getD (s .filters) place freeFilter .area
 abbrev pub withoutFilter : State → ℕ → State
 withoutFilter s place =
     record {
-      areas = set (s .areas) (areaAt s place) (left (getD (s .areas) (areaAt s place) freeArea));
+      areas = set (s .areas) (areaAt s place) (withoutUser (getD (s .areas) (areaAt s place) freeArea));
       filters = set (s .filters) place freeFilter;
       next = s .next;
     }
 
-unfoldable pub closeOf : State → ℕ → Outcome
+unfoldable pub closeOf : State → ℕ → AfterClose
 closeOf s number =
     judge (λ n. record { answer = refused n; state = s }) (closeRefusals s number)
     (record { answer = given tt; state = withoutFilter s (placeOf number (s .filters)) })

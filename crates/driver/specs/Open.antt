@@ -4,15 +4,16 @@ use mathlib.Core.List.{List, [], _∷_}
 use Prim.Native.Nat.{ℕ, _+_}
 use lib.Dec.{ltb, leb}
 use lib.ListN.{length, getD, set}
-use Rattle.rules.specs.Answer.{Answer, refused, given}
-use Rattle.rules.specs.Refusal.{Row, judge, _when_}
+use Rattle.ground.specs.House.{lastNumber, lastFilterPid}
+use Rattle.ground.specs.Answer.{Answer, refused, given}
+use Rattle.ground.specs.Refusal.{Row, judge, _when_}
 use Rattle.driver.specs.State.{areaOf, freeAreaOf, freePlaceOf, freeArea}
 use Rattle.driver.specs.Sound.{sound}
-use Rattle.driver.specs.declared.Area.{Area}
-use Rattle.driver.specs.declared.State.{State}
-use Rattle.driver.specs.declared.Opened.{Opened}
-use Rattle.driver.specs.declared.Opening.{Opening}
-use Rattle.driver.specs.declared.Opening.the-variants as opening
+use Rattle.driver.specs.declared.state.Area.{Area}
+use Rattle.driver.specs.declared.state.State.{State}
+use Rattle.driver.specs.declared.open_call.Opened.{Opened}
+use Rattle.driver.specs.declared.open_call.Opening.{Opening}
+use Rattle.driver.specs.declared.open_call.Opening.the-variants as opening
 
 -- "It answers number and place"
 pub record Place : Type 0 where
@@ -29,36 +30,36 @@ pub record AfterOpen : Type 0 where
   pub answer : Answer Place
   pub state : State
 
-abbrev pub told : Opened → AfterOpen
-told o = record { answer = toldOpening (o .answer); state = o .state }
+abbrev pub toldOpened : Opened → AfterOpen
+toldOpened o = record { answer = toldOpening (o .answer); state = o .state }
 
 -- the PID has an area
-abbrev pub isHeld : ℕ → List Area → Bool
-isHeld pid areas = ltb (areaOf pid areas) (length areas)
+abbrev pub hasArea : ℕ → List Area → Bool
+hasArea pid areas = ltb (areaOf pid areas) (length areas)
 
 -- the PID's area, "and the lowest free area if none has the PID"
 abbrev pub areaFor : ℕ → List Area → ℕ
-areaFor pid areas = cond (isHeld pid areas) (areaOf pid areas) (freeAreaOf areas)
+areaFor pid areas = cond (hasArea pid areas) (areaOf pid areas) (freeAreaOf areas)
 
 -- "Open: 1, 12, 13, 14, 15"
 abbrev pub openRefusals : State → ℕ → List Row
 openRefusals s pid =
     (1 when not (sound s))
-    ∷ (12 when ltb 0x1FFE pid)
-    ∷ (13 when ltb 65535 (s .next))
+    ∷ (12 when ltb lastFilterPid pid)
+    ∷ (13 when ltb lastNumber (s .next))
     ∷ (14 when leb (length (s .filters)) (freePlaceOf (s .filters)))
     ∷ (15 when leb (length (s .areas)) (areaFor pid (s .areas)))
     ∷ []
 
 -- the area with one user more; a free one takes the PID
-abbrev pub joined : ℕ → Area → Area
-joined pid a = record { pid = record { 0 = pid }; users = a .users + 1; marks = a .marks }
+abbrev pub withUser : ℕ → Area → Area
+withUser pid a = record { pid = record { 0 = pid }; users = a .users + 1; marks = a .marks }
 
 -- the state with a filter at this place on this area
 abbrev pub withFilter : State → ℕ → ℕ → ℕ → State
 withFilter s pid area place =
     record {
-      areas = set (s .areas) area (joined pid (getD (s .areas) area freeArea));
+      areas = set (s .areas) area (withUser pid (getD (s .areas) area freeArea));
       filters = set (s .filters) place (record { number = s .next; area = area });
       next = s .next + 1;
     }

@@ -3,25 +3,26 @@ use mathlib.Core.Bool.{Bool, true, false, cond, not, _||_}
 use mathlib.Core.List.{List, [], _∷_}
 use Prim.Native.Nat.{ℕ}
 use lib.Dec.{ltb, leb, eqb}
-use lib.ListN.{length, getD, set, drop}
-use Rattle.rules.specs.Answer.{Answer, refused, given}
-use Rattle.rules.specs.Refusal.{Row, judge, _when_}
-use Rattle.rules.specs.Set.{setOf}
-use Rattle.rules.specs.Write.{put}
+use lib.ListN.{length, getD, set}
+use Rattle.ground.specs.House.{storeBytes, leastOutput}
+use Rattle.ground.specs.Answer.{Answer, refused, given}
+use Rattle.ground.specs.Refusal.{Row, judge, _when_}
+use Rattle.ground.specs.Set.{setOf}
+use Rattle.ground.specs.Write.{put}
 use Rattle.packet.specs.Packet.{packetRefusals, contents}
-use Rattle.packet.specs.Payload.{startAfter}
+use Rattle.packet.specs.Payload.{payloadOf}
 use Rattle.gather.specs.Rule.{Packet, Outcome, rule, leavesNone}
 use Rattle.gather.specs.Kind.{join}
 use Rattle.gather.specs.Memory.{stateOf, marksOf, contradictsOf}
-use Rattle.driver.specs.State.{areaOf, baseOf, freeArea, standsOn}
+use Rattle.driver.specs.State.{areaOf, areaStart, freeArea, standsOn}
 use Rattle.driver.specs.Sound.{sound}
-use Rattle.driver.specs.declared.Area.{Area}
-use Rattle.driver.specs.declared.Filter.{Filter}
-use Rattle.driver.specs.declared.State.{State}
-use Rattle.driver.specs.declared.Report.{Report}
-use Rattle.driver.specs.declared.Handled.{Handled}
-use Rattle.driver.specs.declared.Handling.{Handling}
-use Rattle.driver.specs.declared.Handling.the-variants as handling
+use Rattle.driver.specs.declared.state.Area.{Area}
+use Rattle.driver.specs.declared.state.Filter.{Filter}
+use Rattle.driver.specs.declared.state.State.{State}
+use Rattle.driver.specs.declared.packet_call.Report.{Report}
+use Rattle.driver.specs.declared.packet_call.Handled.{Handled}
+use Rattle.driver.specs.declared.packet_call.Handling.{Handling}
+use Rattle.driver.specs.declared.packet_call.Handling.the-variants as handling
 
 -- what the packet call says in document 01's terms: whether the packet is wanted, and "their number (at most 61), their bytes, the set of filter places on the PID as 32 bits, jump, repeat, and how many sections were given up (0 to 2)"
 pub record Said : Type 0 where
@@ -47,21 +48,18 @@ toldHandling handling.NotWanted = given unwanted
 toldHandling (handling.Refused n) = refused n
 
 -- the answer, the state after it, and every byte of the store and of the output
-pub record After : Type 0 where
+pub record AfterPacket : Type 0 where
   pub answer : Answer Said
   pub state : State
   pub store : List ℕ
   pub out : List ℕ
 
-abbrev pub told : Handled → List ℕ → List ℕ → After
-told h store out = record { answer = toldHandling (h .answer); state = h .state; store = store; out = out }
+abbrev pub toldHandled : Handled → List ℕ → List ℕ → AfterPacket
+toldHandled h store out = record { answer = toldHandling (h .answer); state = h .state; store = store; out = out }
 
 -- ---- what the packet brings
 abbrev pub pidOf : List ℕ → ℕ
 pidOf p = contents p .pid
-
-abbrev pub payloadOf : List ℕ → List ℕ
-payloadOf p = drop (startAfter (contents p .field .size)) p
 
 -- what it brings to the rule: its counter, its unit start and its payload
 abbrev pub packetFrom : List ℕ → Packet
@@ -74,7 +72,7 @@ placesOn i filters = setOf (standsOn i) filters
 -- ---- the orders
 -- "3: the store or output has the wrong size"
 abbrev pub isWrongSize : List ℕ → List ℕ → Bool
-isWrongSize store out = not (eqb (length store) 32768) || ltb (length out) 4278
+isWrongSize store out = not (eqb (length store) storeBytes) || ltb (length out) leastOutput
 
 -- "Packet call: 1, 3, 2, 4, 5, 6, 7, 8"
 abbrev pub firstRefusals : State → List ℕ → List ℕ → List ℕ → List Row
@@ -83,7 +81,7 @@ firstRefusals s p store out = (1 when not (sound s)) ∷ (3 when isWrongSize sto
 -- "then 9, 10, 11", for the PID's area i
 abbrev pub lastRefusals : State → ℕ → List ℕ → List ℕ → List Row
 lastRefusals s i p store =
-    (9 when contradictsOf (getD (s .areas) i freeArea .marks .held) store (baseOf i))
+    (9 when contradictsOf (getD (s .areas) i freeArea .marks .held) store (areaStart i))
     ∷ (10 when not (eqb (contents p .scrambling) 0))
     ∷ (11 when leavesNone (contents p .unitStart) (payloadOf p))
     ∷ []
@@ -91,11 +89,11 @@ lastRefusals s i p store =
 -- ---- the call
 -- what the rule makes of the packet in the PID's area i
 abbrev pub outcome : State → ℕ → List ℕ → List ℕ → Outcome
-outcome s i p store = rule (stateOf (getD (s .areas) i freeArea .marks) store (baseOf i)) (packetFrom p)
+outcome s i p store = rule (stateOf (getD (s .areas) i freeArea .marks) store (areaStart i)) (packetFrom p)
 
 -- the area with the rule's marks
-abbrev pub marked : Area → Outcome → Area
-marked a o = record { pid = a .pid; users = a .users; marks = marksOf (o .next) }
+abbrev pub withMarks : Area → Outcome → Area
+withMarks a o = record { pid = a .pid; users = a .users; marks = marksOf (o .next) }
 
 -- what is said of an outcome of the rule to the filters at these places
 abbrev pub report : Outcome → ℕ → Said
@@ -111,27 +109,27 @@ report o places =
     }
 
 -- the rule's outcome put back: the area's marks, its held bytes, and the sections joined at the start of the output
-abbrev pub putBack : State → ℕ → Outcome → List ℕ → List ℕ → After
+abbrev pub putBack : State → ℕ → Outcome → List ℕ → List ℕ → AfterPacket
 putBack s i o store out =
     record {
       answer = given (report o (placesOn i (s .filters)));
-      state = record { areas = set (s .areas) i (marked (getD (s .areas) i freeArea) o); filters = s .filters; next = s .next };
-      store = put store (baseOf i) (o .next .held);
+      state = record { areas = set (s .areas) i (withMarks (getD (s .areas) i freeArea) o); filters = s .filters; next = s .next };
+      store = put store (areaStart i) (o .next .held);
       out = put out 0 (join (o .sections));
     }
 
-abbrev pub still : State → List ℕ → List ℕ → Answer Said → After
-still s store out answer = record { answer = answer; state = s; store = store; out = out }
+abbrev pub asGiven : State → List ℕ → List ℕ → Answer Said → AfterPacket
+asGiven s store out answer = record { answer = answer; state = s; store = store; out = out }
 
 -- "then 9, 10, 11"
-abbrev pub afterTests : State → ℕ → List ℕ → List ℕ → List ℕ → After
+abbrev pub afterTests : State → ℕ → List ℕ → List ℕ → List ℕ → AfterPacket
 afterTests s i p store out =
-    judge (λ n. still s store out (refused n)) (lastRefusals s i p store) (putBack s i (outcome s i p store) store out)
+    judge (λ n. asGiven s store out (refused n)) (lastRefusals s i p store) (putBack s i (outcome s i p store) store out)
 
 -- "then, if the PID has no area, the answer "not wanted" (counts, marks and set 0, nothing written)"
-abbrev pub afterReading : State → ℕ → List ℕ → List ℕ → List ℕ → After
-afterReading s i p store out = cond (leb (length (s .areas)) i) (still s store out (given unwanted)) (afterTests s i p store out)
+abbrev pub afterReading : State → ℕ → List ℕ → List ℕ → List ℕ → AfterPacket
+afterReading s i p store out = cond (leb (length (s .areas)) i) (asGiven s store out (given unwanted)) (afterTests s i p store out)
 
-unfoldable pub packetOf : State → List ℕ → List ℕ → List ℕ → After
+unfoldable pub packetOf : State → List ℕ → List ℕ → List ℕ → AfterPacket
 packetOf s p store out =
-    judge (λ n. still s store out (refused n)) (firstRefusals s p store out) (afterReading s (areaOf (pidOf p) (s .areas)) p store out)
+    judge (λ n. asGiven s store out (refused n)) (firstRefusals s p store out) (afterReading s (areaOf (pidOf p) (s .areas)) p store out)

@@ -4,12 +4,13 @@ use mathlib.Core.List.{List, [], _∷_}
 use Prim.Native.Nat.{ℕ, suc}
 use lib.Dec.{ltb, leb, eqb}
 use lib.ListN.{getD}
-use Rattle.rules.specs.Walk.{all, apart, count}
+use Rattle.ground.specs.House.{lastFilterPid}
+use Rattle.ground.specs.Walk.{all, apart, count}
 use Rattle.gather.specs.Memory.{soundMarks}
 use Rattle.driver.specs.State.{isUsed, isOpen, standsOn, freeArea}
-use Rattle.driver.specs.declared.Area.{Area}
-use Rattle.driver.specs.declared.Filter.{Filter}
-use Rattle.driver.specs.declared.State.{State}
+use Rattle.driver.specs.declared.state.Area.{Area}
+use Rattle.driver.specs.declared.state.Filter.{Filter}
+use Rattle.driver.specs.declared.state.State.{State}
 
 -- "records of free areas .. are all zero"
 abbrev pub isZeroArea : Area → Bool
@@ -18,7 +19,7 @@ isZeroArea a =
 
 -- "used areas have .. PIDs .. each at most 0x1FFE"; "held bytes are 0 to 4,095; an area that has seen no counter holds 0 bytes and counter 0, any other used area a counter of 0 to 15"
 abbrev pub soundArea : Area → Bool
-soundArea a = cond (isUsed a) (leb (a .pid .0) 0x1FFE && soundMarks (a .marks)) (isZeroArea a)
+soundArea a = cond (isUsed a) (leb (a .pid .0) lastFilterPid && soundMarks (a .marks)) (isZeroArea a)
 
 -- two used areas with one PID
 abbrev pub samePid : Area → Area → Bool

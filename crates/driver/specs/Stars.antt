@@ -4,14 +4,15 @@ use mathlib.Core.Bool.{true, false}
 use mathlib.Core.List.{List, [], _∷_, _++_}
 use Prim.Native.Nat.{ℕ, _≤_, _<_}
 use lib.ListN.{length, set, replicate}
-use Rattle.rules.specs.Answer.{Answer, refused, given}
-use Rattle.rules.specs.Walk.{all}
-use Rattle.rules.specs.Write.{put}
+use Rattle.ground.specs.House.{storeBytes, lastNumber, leastOutput, lastFilterPid}
+use Rattle.ground.specs.Answer.{Answer, refused, given}
+use Rattle.ground.specs.Walk.{all}
+use Rattle.ground.specs.Write.{put}
 use Rattle.driver.specs.State.{fresh, isUsed, freePlaceOf}
 use Rattle.driver.specs.Sound.{sound}
-use Rattle.driver.specs.Open.{Place, isHeld, openOf}
-use Rattle.driver.specs.Packet.{packetOf, still}
-use Rattle.driver.specs.declared.State.{State}
+use Rattle.driver.specs.Open.{Place, hasArea, openOf}
+use Rattle.driver.specs.Packet.{packetOf, asGiven}
+use Rattle.driver.specs.declared.state.State.{State}
 
 pub data Case : Type 0 where
   -- after opens on these PIDs, one after the other, an open on this one answers so
@@ -36,13 +37,13 @@ zeroOpen = openAll fresh (0 ∷ [])
 abbrev pub Right : Case → Type 0
 Right (openAfter pids pid answer) = openOf (openAll fresh pids) pid .answer ≡ answer
 Right eightTaken =
-    (s : State) (pid : ℕ) → sound s ≡ true → all isUsed (s .areas) ≡ true → pid ≤ 0x1FFE → s .next ≤ 65535 → freePlaceOf (s .filters) < length (s .filters)
-    → (isHeld pid (s .areas) ≡ false → openOf s pid .answer ≡ refused 15)
-    × (isHeld pid (s .areas) ≡ true → openOf s pid .answer ≡ given (record { number = s .next; place = freePlaceOf (s .filters) }))
+    (s : State) (pid : ℕ) → sound s ≡ true → all isUsed (s .areas) ≡ true → pid ≤ lastFilterPid → s .next ≤ lastNumber → freePlaceOf (s .filters) < length (s .filters)
+    → (hasArea pid (s .areas) ≡ false → openOf s pid .answer ≡ refused 15)
+    × (hasArea pid (s .areas) ≡ true → openOf s pid .answer ≡ given (record { number = s .next; place = freePlaceOf (s .filters) }))
 Right (packetRefused bytes n) =
-    (store out : List ℕ) → length store ≡ 32768 → 4278 ≤ length out → packetOf zeroOpen bytes store out ≡ still zeroOpen store out (refused n)
+    (store out : List ℕ) → length store ≡ storeBytes → leastOutput ≤ length out → packetOf zeroOpen bytes store out ≡ asGiven zeroOpen store out (refused n)
 Right lastByteHeld =
-    (bytes store out : List ℕ) → length bytes ≡ 182 → length store ≡ 32768 → 4278 ≤ length out
+    (bytes store out : List ℕ) → length bytes ≡ 182 → length store ≡ storeBytes → leastOutput ≤ length out
     → packetOf zeroOpen (0x47 ∷ 0x40 ∷ 0x00 ∷ 0x10 ∷ 182 ∷ (bytes ++ 0x80 ∷ [])) store out
     ≡ record {
       answer = given (record { wanted = true; sections = 0; bytes = 0; places = 1; jump = false; repeat = false; givenUp = 0 });

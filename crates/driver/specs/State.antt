@@ -4,15 +4,16 @@ use mathlib.Core.List.{List}
 use Prim.Native.Nat.{ℕ, _*_}
 use lib.Dec.{eqb}
 use lib.ListN.{replicate}
-use Rattle.rules.specs.Walk.{find}
+use Rattle.ground.specs.House.{areaCount, areaBytes, placeCount}
+use Rattle.ground.specs.Walk.{find}
 use Rattle.gather.specs.Memory.{noMarks}
-use Rattle.driver.specs.declared.Area.{Area}
-use Rattle.driver.specs.declared.Filter.{Filter}
-use Rattle.driver.specs.declared.State.{State}
+use Rattle.driver.specs.declared.state.Area.{Area}
+use Rattle.driver.specs.declared.state.Filter.{Filter}
+use Rattle.driver.specs.declared.state.State.{State}
 
 -- "Areas: 8, each 4,096 bytes; the store is exactly 32,768 bytes, area i starting at 4,096·i"
-abbrev pub baseOf : ℕ → ℕ
-baseOf i = 4096 * i
+abbrev pub areaStart : ℕ → ℕ
+areaStart i = areaBytes * i
 
 -- an area is used where it has users
 abbrev pub isUsed : Area → Bool
@@ -38,7 +39,7 @@ freeFilter = record { number = 0; area = 0 }
 
 -- "A fresh state has only free ones, and next number 1"
 abbrev pub fresh : State
-fresh = record { areas = replicate 8 freeArea; filters = replicate 32 freeFilter; next = 1 }
+fresh = record { areas = replicate areaCount freeArea; filters = replicate placeCount freeFilter; next = 1 }
 
 -- an area has this PID
 abbrev pub hasPid : ℕ → Area → Bool

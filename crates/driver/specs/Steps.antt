@@ -5,11 +5,12 @@ use mathlib.Core.Bool.{true}
 use mathlib.Core.List.{List}
 use Prim.Native.Nat.{ℕ, _≤_}
 use lib.ListN.{length}
+use Rattle.ground.specs.House.{storeBytes, leastOutput}
 use Rattle.driver.specs.Sound.{sound}
-use Rattle.driver.specs.declared.State.{State}
+use Rattle.driver.specs.declared.state.State.{State}
 
 -- what the functions behind the packet call may rely on once its first tests are passed
 pub record Ready (s : State) (store out : List ℕ) : Type 0 where
   pub fine : sound s ≡ true
-  pub whole : length store ≡ 32768
-  pub room : 4278 ≤ length out
+  pub whole : length store ≡ storeBytes
+  pub room : leastOutput ≤ length out

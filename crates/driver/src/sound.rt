@@ -2,14 +2,17 @@
 ghost use mathlib.Core.Path.{_≡_};
 ghost use mathlib.Core.Bool.{not, true, _&&_};
 ghost use lib.ListN.{drop, getD};
-ghost use Rattle.rules.specs.Walk.{all, apart};
+ghost use Rattle.ground.specs.Walk.{all, apart};
 ghost use Prim.Native.Nat.{ℕ, _≤_, _<_};
 ghost use Rattle.driver.specs.Sound.{soundArea, soundFilter, samePid, sameNumber, soundNext, counted, sound};
 ghost use Rattle.driver.specs.State.{isOpen};
 ghost use Rattle.driver.specs.Steps.Tally.{fitsPlace, countedIn, metIn, isMet, agree};
-use crate::Area;
-use crate::Filter;
-use crate::State;
+use crate::state::AREAS;
+use crate::state::Area;
+use crate::state::Filter;
+use crate::state::LAST_FILTER_PID;
+use crate::state::PLACES;
+use crate::state::State;
 
 // Whether the next number to give is one.
 fn next_is_sound(next: u32) -> bool
@@ -25,17 +28,17 @@ fn area_is_sound(area: Area) -> bool
     let marks = area.marks;
     let pid = area.pid;
     if area.users != 0 {
-        return (pid.0 <= 0x1FFE) & gather::sound(marks);
+        return (pid.0 <= LAST_FILTER_PID) & gather::sound(marks);
     }
     (pid.0 == 0) & (marks.held == 0) & !marks.seen & (marks.counter == 0)
 }
 
 // Whether every area's record is sound by itself.
-fn areas_are_sound(areas: [Area; 8]) -> bool
+fn areas_are_sound(areas: [Area; AREAS]) -> bool
     ensures { λ r. ⌜ r ≡ all soundArea areas ⌝ }
 {
     let mut i: usize = 0;
-    while i < 8 {
+    while i < AREAS {
         let area = areas[i];
         if !area_is_sound(area) {
             return false;
@@ -55,12 +58,12 @@ fn same_pid(a: Area, b: Area) -> bool
 }
 
 // Whether no area from `from` on is used by the PID of this one.
-fn is_alone(own: Area, areas: [Area; 8], from: usize) -> bool
+fn is_alone(own: Area, areas: [Area; AREAS], from: usize) -> bool
     requires { ⌜ from ≤ 8 ⌝ }
     ensures { λ r. ⌜ r ≡ all (λ b. not (samePid own b)) (drop from areas) ⌝ }
 {
     let mut i: usize = from;
-    while i < 8 {
+    while i < AREAS {
         let other = areas[i];
         if same_pid(own, other) {
             return false;
@@ -71,11 +74,11 @@ fn is_alone(own: Area, areas: [Area; 8], from: usize) -> bool
 }
 
 // Whether used areas have different PIDs.
-fn pids_differ(areas: [Area; 8]) -> bool
+fn pids_differ(areas: [Area; AREAS]) -> bool
     ensures { λ r. ⌜ r ≡ apart samePid areas ⌝ }
 {
     let mut i: usize = 0;
-    while i < 8 {
+    while i < AREAS {
         let own = areas[i];
         if !is_alone(own, areas, i + 1) {
             return false;
@@ -93,12 +96,12 @@ fn same_number(f: Filter, g: Filter) -> bool
 }
 
 // Whether no filter from `from` on has the number of this one.
-fn is_single(own: Filter, filters: [Filter; 32], from: usize) -> bool
+fn is_single(own: Filter, filters: [Filter; PLACES], from: usize) -> bool
     requires { ⌜ from ≤ 32 ⌝ }
     ensures { λ r. ⌜ r ≡ all (λ g. not (sameNumber own g)) (drop from filters) ⌝ }
 {
     let mut i: usize = from;
-    while i < 32 {
+    while i < PLACES {
         let other = filters[i];
         if same_number(own, other) {
             return false;
@@ -109,11 +112,11 @@ fn is_single(own: Filter, filters: [Filter; 32], from: usize) -> bool
 }
 
 // Whether open numbers differ, each compared with all that come after it.
-fn numbers_differ(filters: [Filter; 32]) -> bool
+fn numbers_differ(filters: [Filter; PLACES]) -> bool
     ensures { λ r. ⌜ r ≡ apart sameNumber filters ⌝ }
 {
     let mut i: usize = 0;
-    while i < 32 {
+    while i < PLACES {
         let own = filters[i];
         if !is_single(own, filters, i + 1) {
             return false;
@@ -154,11 +157,11 @@ fn tally(filter: Filter, counts: &mut [u8; 8], met: &mut [u8; 64]) -> bool
 }
 
 // Whether each area has as many users as counted.
-fn counts_agree(counts: [u8; 8], areas: [Area; 8]) -> bool
+fn counts_agree(counts: [u8; AREAS], areas: [Area; AREAS]) -> bool
     ensures { λ r. ⌜ r ≡ agree counts areas ⌝ }
 {
     let mut i: usize = 0;
-    while i < 8 {
+    while i < AREAS {
         let area = areas[i];
         if area.users != counts[i] {
             return false;
@@ -169,14 +172,14 @@ fn counts_agree(counts: [u8; 8], areas: [Area; 8]) -> bool
 }
 
 // Whether the places, their numbers and the areas' user counts are sound: one pass, and a comparison of all pairs only where two numbers fall into one class.
-fn places_are_sound(areas: [Area; 8], filters: [Filter; 32], next: u32) -> bool
+fn places_are_sound(areas: [Area; AREAS], filters: [Filter; PLACES], next: u32) -> bool
     ensures { λ r. ⌜ r ≡ (all (soundFilter next areas) filters && apart sameNumber filters && counted filters 0 areas) ⌝ }
 {
-    let mut counts = [0u8; 8];
+    let mut counts = [0u8; AREAS];
     let mut met = [0u8; 64];
     let mut alike = false;
     let mut i: usize = 0;
-    while i < 32 {
+    while i < PLACES {
         let filter = filters[i];
         if !fits_place(filter, next) {
             return false;

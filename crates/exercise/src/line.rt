@@ -1,5 +1,6 @@
 // A line of a script as its bytes come: a word, numbers, and bytes at the end.
 ghost use Prim.Native.Nat.{_<_};
+ghost use mathlib.Core.Path.{_≡_};
 
 // What the next byte belongs to.
 enum Part {
@@ -47,6 +48,7 @@ impl Line {
         self.in_part(Part::Nothing)
     }
 
+    // The line as it is, going on in this part.
     fn in_part(self, part: Part) -> Line {
         let numbers = self.numbers;
         Line {
@@ -75,19 +77,25 @@ impl Line {
         }
     }
 
+    // The line with a letter of its word, or at the word's end.
     fn with_letter(self, b: u8) -> Line {
         if (b == b' ') & (0 < self.letters) {
             return self.in_part(Part::Number);
         }
-        if (b < b'a') | (b'z' < b) | (8 <= self.letters) {
+        if (b < b'a') | (b'z' < b) {
+            return self.spoiled();
+        }
+        let letters = self.letters;
+        if 8 <= letters {
             return self.spoiled();
         }
         let mut next = self;
-        next.word = self.word % 0x1_0000_0000_0000 * 32 + five_bits(b);
-        next.letters = self.letters % 8 + 1;
+        next.word = self.word << 5 | five_bits(b);
+        next.letters = letters + 1;
         next
     }
 
+    // The line with a digit of a number, at the number's end, or where bytes come.
     fn with_digit(self, b: u8) -> Line {
         if (b == b'=') & (self.digits == 0) {
             let mut next = self;
@@ -97,7 +105,7 @@ impl Line {
         if b == b' ' {
             return self.with_number();
         }
-        if (b < b'0') | (b'9' < b) | (20 <= self.digits) {
+        if (b < b'0') | (b'9' < b) {
             return self.spoiled();
         }
         self.with_value((b % 16) as u64)
@@ -105,6 +113,10 @@ impl Line {
 
     // The number that is being read, with a digit more.
     fn with_value(self, digit: u64) -> Line {
+        let digits = self.digits;
+        if 20 <= digits {
+            return self.spoiled();
+        }
         if 1_844_674_407_370_955_161 < self.value {
             return self.spoiled();
         }
@@ -114,7 +126,7 @@ impl Line {
         }
         let mut next = self;
         next.value = tens + digit;
-        next.digits = self.digits % 20 + 1;
+        next.digits = digits + 1;
         next
     }
 
@@ -135,6 +147,7 @@ impl Line {
         next
     }
 
+    // The line with half a byte.
     fn with_half(self, b: u8, bytes: &mut [u8]) -> Line {
         let half = half_of(b);
         let size = self.size;
@@ -145,7 +158,7 @@ impl Line {
         next.high = half;
         next.is_half = !self.is_half;
         if self.is_half {
-            next.size = put(bytes, size, self.high % 16 * 16 + half % 16);
+            next.size = text::byte(bytes, size, self.high << 4 | half);
         }
         next
     }
@@ -191,15 +204,6 @@ impl Line {
     }
 }
 
-// Writes the byte at a place, and answers the next place.
-fn put(bytes: &mut [u8], at: usize, b: u8) -> usize {
-    if at < bytes.len() {
-        bytes[at] = b;
-        return at + 1;
-    }
-    at
-}
-
 // A hexadecimal digit's value, and 16 where it is none.
 fn half_of(b: u8) -> u8 {
     if (b'0' <= b) & (b <= b'9') {
@@ -212,10 +216,29 @@ fn half_of(b: u8) -> u8 {
 }
 
 // What tells a small letter from the others.
-fn five_bits(b: u8) -> u64
-    ensures { λ r. ⌜ r < 32 ⌝ }
-{
+fn five_bits(b: u8) -> u64 {
     (b % 32) as u64
+}
+
+// A number in 8 bits: itself, where it is in that range.
+pub(crate) fn eight_bits(n: u64) -> u8
+    ensures { λ r. ⌜ (n < 256 → r ≡ n) ⌝ }
+{
+    (n % 256) as u8
+}
+
+// A number in 16 bits: itself, where it is in that range.
+pub(crate) fn sixteen_bits(n: u64) -> u16
+    ensures { λ r. ⌜ (n < 65536 → r ≡ n) ⌝ }
+{
+    (n % 65536) as u16
+}
+
+// A number in 32 bits: itself, where it is in that range.
+pub(crate) fn thirty_two_bits(n: u64) -> u32
+    ensures { λ r. ⌜ (n < 4294967296 → r ≡ n) ⌝ }
+{
+    (n % 0x1_0000_0000) as u32
 }
 
 // A word's letters as digits to the base 32.
@@ -223,7 +246,7 @@ fn word_of(word: &[u8]) -> u64 {
     let mut w: u64 = 0;
     let mut i: usize = 0;
     while i < word.len() {
-        w = w % 0x1_0000_0000_0000 * 32 + five_bits(word[i]);
+        w = w << 5 | five_bits(word[i]);
         i += 1;
     }
     w

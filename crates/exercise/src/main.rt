@@ -1,11 +1,16 @@
 // Reads a script of calls and writes each outcome whole: docs/EXERCISE.md has the format.
-mod calls;
-mod kept;
+mod buffers;
 mod line;
-mod others;
-mod print;
-mod sections;
+mod lone_calls;
+mod outcome;
+mod records;
+mod state_calls;
+mod table_calls;
 
+use crate::buffers::Bytes;
+use crate::buffers::Output;
+use crate::buffers::Store;
+use crate::buffers::Text;
 use crate::line::Line;
 use driver::State;
 use libc::STDIN_FILENO;
@@ -28,7 +33,7 @@ struct Taken {
 }
 
 // Takes bytes up to a line end.
-fn take_line(line: Line, piece: &[u8], from: usize, bytes: &mut [u8]) -> Taken {
+fn take_line(line: Line, piece: &[u8], from: usize, bytes: &mut Bytes) -> Taken {
     let mut next = from;
     let mut taken = line;
     while next < piece.len() {
@@ -51,8 +56,8 @@ fn take_line(line: Line, piece: &[u8], from: usize, bytes: &mut [u8]) -> Taken {
 }
 
 // Writes the text.
-fn written(text: &[u8], at: usize) -> bool {
-    let is_written = io::write_all(STDOUT_FILENO, text::first(text, at));
+fn write(text: &[u8], size: usize) -> bool {
+    let is_written = io::write_all(STDOUT_FILENO, text::first(text, size));
     if !is_written {
         os::fail(b"standard output");
     }
@@ -62,26 +67,14 @@ fn written(text: &[u8], at: usize) -> bool {
 // The outcome of a line, and a line end behind it. The text is written once it is long: no outcome has 20,000 bytes.
 fn ended(
     turn: Turn,
-    bytes: &mut [u8],
-    store: &mut [u8],
-    old_store: &mut [u8],
-    out: &mut [u8],
-    old_out: &mut [u8],
-    text: &mut [u8],
+    bytes: &mut Bytes,
+    store: &mut Store,
+    out: &mut Output,
+    text: &mut Text,
 ) -> Turn {
     let line = turn.line.ended();
     let state = turn.state;
-    let after = calls::answer(
-        line,
-        state,
-        bytes,
-        store,
-        old_store,
-        out,
-        old_out,
-        text,
-        turn.at,
-    );
+    let after = state_calls::answer(line, state, bytes, store, out, text, turn.at);
     let end = text::byte(text, after.at, b'\n');
     let state = after.state;
     if end < 40_000 {
@@ -98,7 +91,7 @@ fn ended(
         line: Line::new(),
         next: turn.next,
         at: 0,
-        is_on: written(text, end),
+        is_on: write(text, end),
     }
 }
 
@@ -106,12 +99,10 @@ fn ended(
 fn answer_line(
     turn: Turn,
     piece: &[u8],
-    bytes: &mut [u8],
-    store: &mut [u8],
-    old_store: &mut [u8],
-    out: &mut [u8],
-    old_out: &mut [u8],
-    text: &mut [u8],
+    bytes: &mut Bytes,
+    store: &mut Store,
+    out: &mut Output,
+    text: &mut Text,
 ) -> Turn {
     let line = turn.line;
     let taken = take_line(line, piece, turn.next, bytes);
@@ -122,7 +113,7 @@ fn answer_line(
     if !taken.is_ended {
         return next;
     }
-    ended(next, bytes, store, old_store, out, old_out, text)
+    ended(next, bytes, store, out, text)
 }
 
 // Whether there is more of the piece to take.
@@ -134,17 +125,15 @@ fn is_left(turn: Turn, piece: &[u8]) -> bool {
 fn answer_piece(
     turn: Turn,
     piece: &[u8],
-    bytes: &mut [u8],
-    store: &mut [u8],
-    old_store: &mut [u8],
-    out: &mut [u8],
-    old_out: &mut [u8],
-    text: &mut [u8],
+    bytes: &mut Bytes,
+    store: &mut Store,
+    out: &mut Output,
+    text: &mut Text,
 ) -> Turn {
     let mut now = turn;
     let mut left = piece.len();
     while 0 < left && is_left(now, piece) {
-        now = answer_line(now, piece, bytes, store, old_store, out, old_out, text);
+        now = answer_line(now, piece, bytes, store, out, text);
         left -= 1;
     }
     now
@@ -153,12 +142,10 @@ fn answer_piece(
 // Reads a piece and answers its lines; at the script's end also the line that no line end followed.
 fn answer_some(
     turn: Turn,
-    bytes: &mut [u8],
-    store: &mut [u8],
-    old_store: &mut [u8],
-    out: &mut [u8],
-    old_out: &mut [u8],
-    text: &mut [u8],
+    bytes: &mut Bytes,
+    store: &mut Store,
+    out: &mut Output,
+    text: &mut Text,
 ) -> Turn {
     let mut piece = io::large_buffer();
     let got = libc::read(STDIN_FILENO, &mut piece);
@@ -166,16 +153,7 @@ fn answer_some(
         let n = io::count(got, &piece);
         let mut turn = turn;
         turn.next = 0;
-        return answer_piece(
-            turn,
-            &piece[..n],
-            bytes,
-            store,
-            old_store,
-            out,
-            old_out,
-            text,
-        );
+        return answer_piece(turn, &piece[..n], bytes, store, out, text);
     }
     if got < 0 {
         os::fail(b"standard input");
@@ -184,27 +162,20 @@ fn answer_some(
     if (got < 0) | line.is_empty() {
         return stopped(turn, text);
     }
-    let last = ended(turn, bytes, store, old_store, out, old_out, text);
+    let last = ended(turn, bytes, store, out, text);
     stopped(last, text)
 }
 
 // The end: what is left of the text is written.
 fn stopped(turn: Turn, text: &[u8]) -> Turn {
-    written(text, turn.at);
+    write(text, turn.at);
     let mut last = turn;
     last.is_on = false;
     last
 }
 
 // A proved loop has to end, and nothing says that a script does, so it counts down from a number that no run uses up.
-fn answer_all(
-    bytes: &mut [u8],
-    store: &mut [u8],
-    old_store: &mut [u8],
-    out: &mut [u8],
-    old_out: &mut [u8],
-    text: &mut [u8],
-) {
+fn answer_all(bytes: &mut Bytes, store: &mut Store, out: &mut Output, text: &mut Text) {
     let mut turns = u64::MAX;
     let mut turn = Turn {
         state: driver::fresh(),
@@ -214,24 +185,15 @@ fn answer_all(
         is_on: true,
     };
     while 0 < turns && turn.is_on {
-        turn = answer_some(turn, bytes, store, old_store, out, old_out, text);
+        turn = answer_some(turn, bytes, store, out, text);
         turns -= 1;
     }
 }
 
 fn main() {
-    let mut bytes = [0u8; 8192];
-    let mut store = [0u8; 40960];
-    let mut old_store = [0u8; 40960];
-    let mut out = [0u8; 8192];
-    let mut old_out = [0u8; 8192];
+    let mut bytes: Bytes = [0; 8192];
+    let mut store: Store = [0; 40960];
+    let mut out: Output = [0; 8192];
     let mut text = io::large_buffer();
-    answer_all(
-        &mut bytes,
-        &mut store,
-        &mut old_store,
-        &mut out,
-        &mut old_out,
-        &mut text,
-    );
+    answer_all(&mut bytes, &mut store, &mut out, &mut text);
 }

@@ -2,7 +2,7 @@
 -- Assumes nothing.
 use mathlib.Core.Path.{_≡_, refl, sym, _∙_, ap}
 use mathlib.Core.Bool.{Bool, true, false}
-use mathlib.Core.List.{List, [], _++_}
+use mathlib.Core.List.{List, [], _++_, append-nil}
 use mathlib.Core.Logic.{_⊎_, inl, inr}
 use Prim.Native.Nat.{ℕ, _+_, _-_, _≤_, _<_}
 use native.Mathlib.Omega.{arith}
@@ -10,8 +10,9 @@ use lib.Dec.{eqb}
 use lib.ListN.{length, take, length-append}
 use lib.Seq.{length-take-le, take-length}
 use borrow.Author.Tests.{eq-eqb, ne-eqb, eqb-true, eqb-false}
-use Rattle.rules.specs.Write.{put}
-use Rattle.rules.proofs.Write.{put-nil}
+use Rattle.ground.specs.Write.{put}
+use Rattle.ground.proofs.Write.{put-nil}
+use Rattle.ground.proofs.Part.{length-part, put-after}
 use Rattle.gather.specs.declared.kind.Kind.{Kind}
 use Rattle.gather.specs.declared.kind.Kind.the-variants.{Nothing, Part, Overlong, Whole}
 use Rattle.gather.specs.Kind.{classify, join}
@@ -19,7 +20,6 @@ use Rattle.gather.specs.Rule.{Yield, nothing, first, add}
 use Rattle.gather.specs.Memory.{stretch}
 use Rattle.gather.proofs.Classes.{whole-fits, part-fits}
 use Rattle.gather.proofs.Walk.{Fine, none-fine, first-fine}
-use Rattle.gather.proofs.Parts.{append-nil, length-part, put-after}
 
 -- with no bytes held nothing comes of it
 pub add-none : (held new : List ℕ) → length held ≡ 0 → add held new ≡ nothing

@@ -4,11 +4,11 @@ use mathlib.Core.Path.{_≡_, refl}
 use mathlib.Core.Bool.{Bool}
 use mathlib.Core.List.{List}
 use Prim.Native.Nat.{ℕ}
-use Rattle.rules.specs.Answer.{Answer, refused, given}
-use Rattle.rules.specs.Outcome.{Determined}
-use Rattle.rules.specs.Refusal.{ExactCall}
-use Rattle.rules.proofs.Judged.{exact-call}
-use Rattle.rules.proofs.Outcome.{determined, determined-told}
+use Rattle.ground.specs.Answer.{Answer, refused, given}
+use Rattle.ground.specs.Outcome.{Determined}
+use Rattle.ground.specs.Refusal.{ExactCall}
+use Rattle.ground.proofs.Judged.{exact-call}
+use Rattle.ground.proofs.Outcome.{determined, determined-told}
 use Rattle.gather.specs.Rule.{leavesNone, rule}
 use Rattle.gather.specs.Memory.{soundMarks, stateOf, contradictsOf, Result, toldGathering, Leaves, leaves, resultOf, onMemory, gatherRefusals, gatherOf}
 use Rattle.gather.specs.Promises.{Gathers}
@@ -16,8 +16,8 @@ use Rattle.gather.specs.Claims.{Claims}
 use Rattle.gather.specs.declared.Marks.{Marks}
 use Rattle.gather.specs.declared.Gathering.{Gathering}
 use Rattle.gather.specs.declared.Gathering.the-variants as gathering
-use Rattle.gather.proofs.Laws.{rule-keeps, never-starts}
-use Rattle.gather.proofs.Exactly.{rule-exact}
+use Rattle.gather.proofs.RuleKeeps.{rule-keeps, never-starts}
+use Rattle.gather.proofs.WholeSections.{rule-exact}
 use Rattle.gather.proofs.Spread.{gathers-whole}
 use Rattle.gather.proofs.Cutting.{rule-cut}
 use Rattle.gather.proofs.Stored.{state-again}

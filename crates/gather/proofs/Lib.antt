@@ -1,13 +1,12 @@
 pub mod Classes
-pub mod Parts
 pub mod Walk
 pub mod Adding
 pub mod Sized
-pub mod Carrying
-pub mod Accepting
-pub mod Laws
+pub mod OnMemory
+pub mod RuleOnMemory
+pub mod RuleKeeps
 pub mod Cutting
-pub mod Exactly
+pub mod WholeSections
 pub mod Spread
 pub mod Stored
 pub mod Stars

@@ -1,23 +1,23 @@
 -- The sizes of what bytes give, as the code finds them: by the kind of what stands first.
 -- Assumes nothing.
 use mathlib.Core.Path.{_≡_, sym, _∙_, ap}
-use mathlib.Core.List.{List, [], _++_}
+use mathlib.Core.List.{List, [], _++_, append-nil}
 use Prim.Native.Nat.{ℕ, suc, _+_, _≤_, _<_}
 use native.Mathlib.Nat.{add-zero, add-assoc}
 use native.Mathlib.Omega.{arith}
 use lib.ListN.{length, take, drop, length-append}
 use lib.Seq.{length-take-le, drop-drop}
+use Rattle.ground.proofs.Part.{length-part}
 use Rattle.gather.specs.declared.kind.Kind.{Kind}
 use Rattle.gather.specs.declared.kind.Kind.the-variants.{Nothing, Part, Overlong, Whole}
 use Rattle.gather.specs.declared.measure.Sizes.{Sizes}
 use Rattle.gather.specs.Kind.{classify, join}
-use Rattle.gather.specs.Rule.{Yield, nothing, first, restAfter, walk, add}
+use Rattle.gather.specs.Rule.{Yield, nothing, first, walk, add}
 use Rattle.gather.specs.Memory.{stretch}
 use Rattle.gather.specs.Steps.{sizesOf}
 use Rattle.gather.proofs.Classes.{whole-fits, size-is}
-use Rattle.gather.proofs.Walk.{walk-kind}
+use Rattle.gather.proofs.Walk.{restAfter, walk-kind}
 use Rattle.gather.proofs.Adding.{add-none, add-kind}
-use Rattle.gather.proofs.Parts.{append-nil, length-part}
 
 -- ---- bytes added to held ones
 -- the sizes with no bytes held, and by the kind of the held bytes with the new ones after them

@@ -2,24 +2,23 @@
 -- Assumes nothing.
 use mathlib.Core.Path.{_≡_, refl, _∙_, ap}
 use mathlib.Core.Bool.{true, false}
-use mathlib.Core.List.{List, [], _∷_, _++_, append-assoc}
+use mathlib.Core.List.{List, [], _∷_, _++_, append-assoc, append-nil}
 use Prim.Native.Nat.{ℕ, _+_, _%_}
 use native.Mathlib.Omega.{arith}
 use lib.ListN.{length, take, length-append}
 use lib.Seq.{take-at, take-length}
 use borrow.Author.Tests.{eq-eqb, ne-eqb}
-use Rattle.rules.specs.Walk.{Every}
+use Rattle.ground.specs.Walk.{Every}
 use Rattle.gather.specs.declared.kind.Kind.the-variants.{Part, Whole}
 use Rattle.gather.specs.Kind.{classify, join}
 use Rattle.gather.specs.Rule.{seen, Packet, Yield, Outcome, add, started, ended, together, repeats, jumps, kept, lost, changed, rule}
 use Rattle.gather.specs.Run.{Ran, run, following}
 use Rattle.gather.proofs.Classes.{whole-again, part-of}
-use Rattle.gather.proofs.Parts.{append-nil}
 use Rattle.gather.specs.Claims.{IsWhole, Some, Spread}
 use Rattle.gather.proofs.Walk.{walk-kind}
 use Rattle.gather.proofs.Adding.{add-kind}
-use Rattle.gather.proofs.Accepting.{rule-changed}
-use Rattle.gather.proofs.Laws.{add-alone, kept-fine}
+use Rattle.gather.proofs.RuleOnMemory.{rule-changed}
+use Rattle.gather.proofs.RuleKeeps.{add-alone, kept-fine}
 
 -- the next counter is no repeat and no jump
 next-new : (l : ℕ) → repeats (seen l) ((l + 1) % 16) ≡ false

@@ -8,14 +8,14 @@ use native.Mathlib.Omega.{arith}
 use lib.ListN.{length, length-append}
 use lib.Seq.{drop-at}
 use borrow.Author.Tests.{le-leb}
-use Rattle.rules.specs.Walk.{Every}
-use Rattle.rules.proofs.Write.{put-nil}
+use Rattle.ground.specs.Walk.{Every}
+use Rattle.ground.proofs.Write.{put-nil}
 use Rattle.gather.specs.Kind.{kindOf, classify}
 use Rattle.gather.specs.Rule.{blank, seen, Yield, Outcome, front, back, walk, started, changed, rule}
 use Rattle.gather.specs.Memory.{noMarks, onMemory}
 use Rattle.gather.specs.Stars.{Right, cases, length-182, pointer-183, pointer-182, pointer-182-stored}
 use Rattle.gather.proofs.Adding.{add-none}
-use Rattle.gather.proofs.Accepting.{rule-changed}
+use Rattle.gather.proofs.RuleOnMemory.{rule-changed}
 use Rattle.gather.proofs.Stored.{serves}
 
 one-byte : Right length-182

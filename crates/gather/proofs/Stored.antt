@@ -7,19 +7,19 @@ use Prim.Native.Nat.{ℕ, _+_, _-_, _*_, _≤_, _<_}
 use native.Mathlib.Omega.{arith}
 use lib.ListN.{length, take}
 use borrow.Author.Tests.{le-ltb}
-use Rattle.rules.proofs.Refusal.{accepted}
-use Rattle.rules.specs.Write.{put}
-use Rattle.rules.proofs.Write.{written}
+use Rattle.ground.proofs.Refusal.{accepted}
+use Rattle.ground.specs.Write.{put}
+use Rattle.ground.proofs.Write.{written}
 use Rattle.gather.specs.declared.Marks.{Marks}
-use Rattle.rules.specs.Answer.{refused}
-use Rattle.rules.specs.Walk.{Every}
+use Rattle.ground.specs.Answer.{refused}
+use Rattle.ground.specs.Walk.{Every}
 use Rattle.gather.specs.Kind.{join, cut}
 use Rattle.gather.specs.Rule.{Last, unseen, seen, State, Packet, rule}
 use Rattle.gather.specs.Memory.{soundMarks, lastOf, isSeen, counterOf, marksOf, stateOf, contradictsOf, gatherRefusals, gatherOf, onMemory, leaves}
 use Rattle.gather.specs.Steps.{Room}
-use Rattle.gather.proofs.Accepting.{sound-says, marks-again}
+use Rattle.gather.proofs.RuleOnMemory.{sound-says, marks-again}
 use Rattle.gather.specs.Claims.{IsWhole}
-use Rattle.gather.proofs.Laws.{rule-keeps}
+use Rattle.gather.proofs.RuleKeeps.{rule-keeps}
 use Rattle.gather.proofs.Cutting.{cut-join}
 
 -- where the sizes serve and the marks are sound, the answer is the rule's

@@ -1,22 +1,22 @@
--- Section follows section: one equation by the kind of the first, and one induction; nothing else looks at the bound of `walkFor`.
+-- Section follows section: one equation by the kind of the first, and one induction.
 -- Assumes nothing.
-use mathlib.Core.Path.{_≡_, refl, sym, _∙_, ap}
+use mathlib.Core.Path.{_≡_, refl, _∙_, ap}
 use mathlib.Core.Bool.{false}
-use mathlib.Core.List.{List, [], _∷_, _++_}
-use Prim.Native.Nat.{ℕ, zero, suc, _+_, _*_, _≤_, zero-le}
-use native.Mathlib.Nat.{not-suc-le-zero, le-refl}
+use mathlib.Core.List.{List, [], _∷_, _++_, append-nil}
+use Prim.Native.Nat.{ℕ, _+_, _*_, _≤_, _<_}
 use native.Mathlib.Omega.{arith}
 use lib.ListN.{length, take, drop, length-drop, length-append}
 use lib.Seq.{drop-drop, length-take-le, take-length, take-add}
 use borrow.Author.Tests.{ne-eqb}
-use Rattle.rules.specs.Walk.{Every}
+use Rattle.ground.specs.Items.{Step, onward, items}
+use Rattle.ground.specs.Walk.{Every}
+use Rattle.ground.proofs.Items.{items-end, items-ind, on-items}
 use Rattle.gather.specs.declared.kind.Kind.{Kind}
 use Rattle.gather.specs.declared.kind.Kind.the-variants.{Nothing, Part, Overlong, Whole}
 use Rattle.gather.specs.Kind.{classify, contradicting, join}
-use Rattle.gather.specs.Rule.{Yield, nothing, unfinished, _then_, first, restAfter, walkFor, walk}
+use Rattle.gather.specs.Rule.{Yield, nothing, unfinished, _then_, firstSection, first, walk}
 use Rattle.gather.specs.Claims.{IsWhole}
-use Rattle.gather.proofs.Classes.{kind-empty, whole-fits, whole-again, part-fits, part-holds, said-of, size-is}
-use Rattle.gather.proofs.Parts.{append-nil}
+use Rattle.gather.proofs.Classes.{kind-empty, whole-fits, whole-again, part-fits, part-holds, size-is}
 
 -- what holds of some bytes and what they give, by the kind of the first: one rule a kind
 pub record Turns (P : List ℕ → Yield → Type 0) : Type 0 where
@@ -25,60 +25,41 @@ pub record Turns (P : List ℕ → Yield → Type 0) : Type 0 where
   pub at-overlong : (s : List ℕ) → classify s ≡ Overlong → P s (record { sections = []; held = []; givenUp = 1 })
   pub at-whole : (s : List ℕ) (n : ℕ) (y : Yield) → classify s ≡ Whole n → P (drop n s) y → P s (take n s then y)
 
--- the bytes after a whole section are fewer
-fewer : (s : List ℕ) (k : ℕ) → length s ≤ suc k → (j : Kind) → classify s ≡ j → length (restAfter j s) ≤ k
-fewer s k h Nothing e = zero-le
-fewer s k h Part e = zero-le
-fewer s k h Overlong e = zero-le
-fewer s k h (Whole n) e = let w = whole-fits s n e in rw length-drop (omega arith)
+-- the bytes after a whole section
+abbrev pub restAfter : Kind → List ℕ → List ℕ
+restAfter Nothing s = []
+restAfter Part s = []
+restAfter Overlong s = []
+restAfter (Whole n) s = drop n s
 
-module _ (P : List ℕ → Yield → Type 0) (t : Turns P) where
-  turn : (s : List ℕ) (rest : Yield) (j : Kind) → classify s ≡ j → P (restAfter j s) rest → P s (first j s rest)
-  turn s rest Nothing e p = t .at-nothing s e
-  turn s rest Part e p = t .at-part s e
-  turn s rest Overlong e p = t .at-overlong s e
-  turn s rest (Whole n) e p = t .at-whole s n rest e p
+abbrev step : List ℕ → Step (List ℕ) Yield
+step s = firstSection (classify s) s
 
-  walks : (k : ℕ) (s : List ℕ) → length s ≤ k → P s (walkFor k s)
-  walks zero [] h = t .at-nothing [] kind-empty
-  walks zero (x ∷ xs) h = absurd (not-suc-le-zero h)
-  walks (suc k) s h =
-      turn s (walkFor k (restAfter (classify s) s)) (classify s) refl (walks k (restAfter (classify s) s) (fewer s k h (classify s) refl))
-
-  -- the induction over a walk
-  pub walk-ind : (s : List ℕ) → P s (walk s)
-  unfolding walk
-  walk-ind s = walks (length s) s (le-refl (length s))
-
--- a larger bound changes nothing
-enough : (s : List ℕ) (k : ℕ) → length s ≤ k → walkFor k s ≡ walk s
-enough = walk-ind (λ s y. (k : ℕ) → length s ≤ k → walkFor k s ≡ y) (record { at-nothing = none; at-part = part; at-overlong = over; at-whole = whole })
+-- the induction over a walk
+pub walk-ind : (P : List ℕ → Yield → Type 0) → Turns P → (s : List ℕ) → P s (walk s)
+unfolding walk
+walk-ind P t s = items-ind _then_ (λ at. step) nothing (λ at s y. P s y) (λ at. t .at-nothing [] kind-empty) (λ at s rest h later. turn s rest (classify s) refl later) 0 s
   where
-    none : (s : List ℕ) → classify s ≡ Nothing → (k : ℕ) → length s ≤ k → walkFor k s ≡ nothing
-    none s e zero h = refl
-    none s e (suc k) h = rw e
-
-    part : (s : List ℕ) → classify s ≡ Part → (k : ℕ) → length s ≤ k → walkFor k s ≡ record { sections = []; held = s; givenUp = 0 }
-    part s e zero h = let p = part-fits s e .0 in absurd (omega arith)
-    part s e (suc k) h = rw e
-
-    over : (s : List ℕ) → classify s ≡ Overlong → (k : ℕ) → length s ≤ k → walkFor k s ≡ record { sections = []; held = []; givenUp = 1 }
-    over s e zero h = let p = said-of s Overlong e .0 in absurd (omega arith)
-    over s e (suc k) h = rw e
-
-    whole : (s : List ℕ) (n : ℕ) (y : Yield) → classify s ≡ Whole n → ((k : ℕ) → length (drop n s) ≤ k → walkFor k (drop n s) ≡ y)
-        → (k : ℕ) → length s ≤ k → walkFor k s ≡ take n s then y
-    whole s n y e rest zero h = let w = whole-fits s n e in absurd (omega arith)
-    whole s n y e rest (suc k) h = rw e (ap (λ (r : Yield). take n s then r) (rest k (fewer s k h (Whole n) e)))
+    turn : (s : List ℕ) (rest : ℕ → Yield) (k : Kind) → classify s ≡ k → ((n : ℕ) → 0 < n → P (drop n s) (rest n)) → P s (onward _then_ (firstSection k s) rest)
+    turn s rest Nothing e later = t .at-nothing s e
+    turn s rest Part e later = t .at-part s e
+    turn s rest Overlong e later = t .at-overlong s e
+    turn s rest (Whole n) e later = let w = whole-fits s n e in t .at-whole s n (rest n) e (later n (omega arith))
 
 -- the walk by the kind of what stands first
-pub walk-eq : (s : List ℕ) → walk s ≡ first (classify s) s (walk (restAfter (classify s) s))
-walk-eq s =
-    sym (enough s (suc (length s)) (omega arith))
-    ∙ ap (λ (r : Yield). first (classify s) s r) (enough (restAfter (classify s) s) (length s) (fewer s (length s) (omega arith) (classify s) refl))
-
 pub walk-kind : (s : List ℕ) (k : Kind) → classify s ≡ k → walk s ≡ first k s (walk (restAfter k s))
-walk-kind s k e = rw e at (walk-eq s)
+unfolding walk
+walk-kind [] k e = rw (← e, kind-empty) refl
+walk-kind (x ∷ xs) k e = go k e
+  where
+    s : List ℕ
+    s = x ∷ xs
+
+    go : (k : Kind) → classify s ≡ k → items _then_ step nothing s ≡ first k s (items _then_ step nothing (restAfter k s))
+    go Nothing e = items-end _then_ (λ at. step) nothing 0 s nothing (omega arith) (ap (λ (k : Kind). firstSection k s) e)
+    go Part e = items-end _then_ (λ at. step) nothing 0 s _ (omega arith) (ap (λ (k : Kind). firstSection k s) e)
+    go Overlong e = items-end _then_ (λ at. step) nothing 0 s _ (omega arith) (ap (λ (k : Kind). firstSection k s) e)
+    go (Whole n) e = let w = whole-fits s n e in on-items _then_ step nothing s n (take n s) (omega arith) (omega arith) (ap (λ (k : Kind). firstSection k s) e)
 
 -- a finished section is whole
 pub whole-taken : (s : List ℕ) (n : ℕ) → classify s ≡ Whole n → IsWhole (take n s)

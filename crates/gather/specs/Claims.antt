@@ -4,11 +4,12 @@ use mathlib.Core.Bool.{Bool, true, false}
 use mathlib.Core.List.{List, [], _∷_, _++_}
 use Prim.Native.Nat.{ℕ, _+_, _≤_, _<_}
 use lib.ListN.{length}
-use Rattle.rules.specs.Outcome.{Determined}
-use Rattle.rules.specs.Refusal.{ExactCall}
-use Rattle.rules.specs.Answer.{refused}
-use Rattle.rules.specs.Walk.{Every}
-use Rattle.rules.specs.Write.{put}
+use Rattle.ground.specs.House.{leastOutput, payloadBytes}
+use Rattle.ground.specs.Outcome.{Determined}
+use Rattle.ground.specs.Refusal.{ExactCall}
+use Rattle.ground.specs.Answer.{refused}
+use Rattle.ground.specs.Walk.{Every}
+use Rattle.ground.specs.Write.{put}
 use Rattle.gather.specs.Kind.{classify, contradicting, join, cut}
 use Rattle.gather.specs.Rule.{State, Packet, Outcome, repeats, rule}
 use Rattle.gather.specs.Memory.{counterOf, soundMarks, marksOf, stateOf, gatherRefusals, Leaves, leaves, gatherOf}
@@ -37,11 +38,11 @@ pub record Keeps (s : State) (p : Packet) (o : Outcome) : Type 0 where
   -- "how many sections were given up (0 to 2)"
   pub two : o .givenUp ≤ 2
   -- "their number (at most 61)"
-  pub count : length (p .payload) ≤ 184 → length (o .sections) ≤ 61
+  pub count : length (p .payload) ≤ payloadBytes → length (o .sections) ≤ 61
   -- no more bytes are finished than were held and came
   pub within : length (join (o .sections)) ≤ length (s .held) + length (p .payload)
   -- the output buffer of 4,278 bytes serves
-  pub bytes : length (p .payload) ≤ 184 → length (join (o .sections)) ≤ 4278
+  pub bytes : length (p .payload) ≤ payloadBytes → length (join (o .sections)) ≤ leastOutput
   -- a counter of 0 to 15
   pub counter : counterOf (s .last) ≤ 15 → p .counter ≤ 15 → counterOf (o .next .last) ≤ 15
   -- the marks stay sound

@@ -1,9 +1,11 @@
 -- Document 01, "From payload to sections": what stands where a section should: nothing, a part of a section, one that is too long, or a whole one.
 use mathlib.Core.Bool.{Bool, cond, _&&_, _||_}
 use mathlib.Core.List.{List, [], _∷_, _++_}
-use Prim.Native.Nat.{ℕ, zero, suc, _+_}
+use Prim.Native.Nat.{ℕ, _+_}
 use lib.Dec.{ltb, leb, eqb}
-use lib.ListN.{length, getD, take, drop}
+use lib.ListN.{length, getD, take}
+use Rattle.ground.specs.House.{longestLength}
+use Rattle.ground.specs.Items.{takes, items}
 use Rattle.section.specs.Section.{sectionLength, sectionSize}
 use Rattle.gather.specs.declared.kind.Kind.{Kind}
 use Rattle.gather.specs.declared.kind.Kind.the-variants.{Nothing, Part, Overlong, Whole}
@@ -14,7 +16,7 @@ kindOf first len size =
     cond (eqb size 0) Nothing
     (cond (eqb first 255) Nothing
     (cond (ltb size 3) Part
-    (cond (ltb 4093 len) Overlong
+    (cond (ltb longestLength len) Overlong
     (cond (ltb size (3 + len)) Part
     (Whole (3 + len))))))
 
@@ -29,18 +31,13 @@ isEmpty s = eqb (length s) 0
 -- refusal 9 ("Filters and areas"): "the held bytes start with 0xFF, or 3 or more are held and their section_length is above 4,093 or already met"
 abbrev pub contradicting : List ℕ → Bool
 contradicting held =
-    eqb (getD held 0 0) 255 || (leb 3 (length held) && (ltb 4093 (sectionLength held) || leb (sectionSize held) (length held)))
+    eqb (getD held 0 0) 255 || (leb 3 (length held) && (ltb longestLength (sectionLength held) || leb (sectionSize held) (length held)))
 
 -- sections joined, one after the other
 abbrev pub join : List (List ℕ) → List ℕ
 join [] = []
 join (s ∷ ss) = s ++ join ss
 
--- joined sections cut again, each after its 3 + section_length bytes; the first argument bounds their number
-abbrev pub cutFor : ℕ → List ℕ → List (List ℕ)
-cutFor zero s = []
-cutFor (suc k) s = let rest = cutFor k (drop (sectionSize s) s) in cond (isEmpty s) [] (take (sectionSize s) s ∷ rest)
-
--- the same of all bytes
+-- joined sections cut again, each after its 3 + section_length bytes
 abbrev pub cut : List ℕ → List (List ℕ)
-cut s = cutFor (length s) s
+cut s = items _∷_ (λ rest. takes (sectionSize rest) (take (sectionSize rest) rest)) [] s

@@ -4,9 +4,10 @@ use mathlib.Core.List.{List, [], _∷_}
 use Prim.Native.Nat.{ℕ, _-_}
 use lib.Dec.{ltb, leb, eqb}
 use lib.ListN.{length, take, drop}
-use Rattle.rules.specs.Answer.{Answer, refused, given}
-use Rattle.rules.specs.Refusal.{Row, judge, _when_}
-use Rattle.rules.specs.Write.{put}
+use Rattle.ground.specs.House.{areaBytes, leastOutput, payloadBytes}
+use Rattle.ground.specs.Answer.{Answer, refused, given}
+use Rattle.ground.specs.Refusal.{Row, judge, _when_}
+use Rattle.ground.specs.Write.{put}
 use Rattle.gather.specs.declared.Marks.{Marks}
 use Rattle.gather.specs.declared.Gathered.{Gathered}
 use Rattle.gather.specs.declared.Gathering.{Gathering}
@@ -89,10 +90,10 @@ abbrev pub gatherRefusals : Marks → ℕ → List ℕ → List ℕ → ℕ → 
 gatherRefusals marks counter payload store base out =
     (1 when not (soundMarks marks))
     ∷ (1 when ltb 15 counter)
-    ∷ (3 when ltb (length store) 4096)
-    ∷ (3 when ltb (length store - 4096) base)
-    ∷ (3 when ltb (length out) 4278)
-    ∷ (2 when ltb 184 (length payload))
+    ∷ (3 when ltb (length store) areaBytes)
+    ∷ (3 when ltb (length store - areaBytes) base)
+    ∷ (3 when ltb (length out) leastOutput)
+    ∷ (2 when ltb payloadBytes (length payload))
     ∷ []
 
 -- the call: refused, or the rule on memory

@@ -1,9 +1,10 @@
 -- From payload to sections: the rule alone, over an area's held bytes and last counter.
 use mathlib.Core.Bool.{Bool, true, false, cond, not, _&&_}
 use mathlib.Core.List.{List, [], _∷_, _++_}
-use Prim.Native.Nat.{ℕ, zero, suc, _+_, _%_}
+use Prim.Native.Nat.{ℕ, _+_, _%_}
 use lib.Dec.{eqb, leb}
 use lib.ListN.{length, getD, take, drop}
+use Rattle.ground.specs.Items.{Step, takes, ends, onward, items}
 use Rattle.gather.specs.declared.kind.Kind.{Kind}
 use Rattle.gather.specs.declared.kind.Kind.the-variants.{Nothing, Part, Overlong, Whole}
 use Rattle.gather.specs.Kind.{classify, isEmpty}
@@ -55,28 +56,20 @@ infixr 20 _then_
 abbrev pub _then_ : List ℕ → Yield → Yield
 s then y = record { sections = s ∷ y .sections; held = y .held; givenUp = y .givenUp }
 
--- the first section of some bytes, by their kind, and after a whole one what the rest gives: an unfinished one is held, a section_length above 4,093 gives that section up
+-- what stands first in some bytes, by their kind: a whole section, or the end of the sections; an unfinished one is held, a section_length above 4,093 gives that section up
+abbrev pub firstSection : Kind → List ℕ → Step (List ℕ) Yield
+firstSection Nothing s = ends nothing
+firstSection Part s = ends (record { sections = []; held = s; givenUp = 0 })
+firstSection Overlong s = ends (record { sections = []; held = []; givenUp = 1 })
+firstSection (Whole n) s = takes n (take n s)
+
+-- what stands first, and after a whole section what the rest gives
 abbrev pub first : Kind → List ℕ → Yield → Yield
-first Nothing s rest = nothing
-first Part s rest = record { sections = []; held = s; givenUp = 0 }
-first Overlong s rest = record { sections = []; held = []; givenUp = 1 }
-first (Whole n) s rest = take n s then rest
+first k s rest = onward _then_ (firstSection k s) (λ n. rest)
 
--- the bytes after a whole section
-abbrev pub restAfter : Kind → List ℕ → List ℕ
-restAfter Nothing s = []
-restAfter Part s = []
-restAfter Overlong s = []
-restAfter (Whole n) s = drop n s
-
--- "section follows section until the bytes end or a byte 0xFF stands where a table_id should"; the first argument bounds their number
-abbrev pub walkFor : ℕ → List ℕ → Yield
-walkFor zero s = nothing
-walkFor (suc k) s = let rest = walkFor k (restAfter (classify s) s) in first (classify s) s rest
-
--- the same of all bytes: there are no more sections than bytes
+-- "section follows section until the bytes end or a byte 0xFF stands where a table_id should"
 unfoldable pub walk : List ℕ → Yield
-walk s = walkFor (length s) s
+walk s = items _then_ (λ rest. firstSection (classify rest) rest) nothing s
 
 -- "if bytes are held, bytes are added until the section is full; the rest is ignored. If none are held, all are ignored"
 unfoldable pub add : List ℕ → List ℕ → Yield

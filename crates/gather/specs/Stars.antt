@@ -4,8 +4,9 @@ use mathlib.Core.Bool.{true, false}
 use mathlib.Core.List.{List, [], _∷_, _++_}
 use Prim.Native.Nat.{ℕ, _+_, _≤_}
 use lib.ListN.{length}
-use Rattle.rules.specs.Answer.{given}
-use Rattle.rules.specs.Write.{put}
+use Rattle.ground.specs.House.{areaBytes, leastOutput}
+use Rattle.ground.specs.Answer.{given}
+use Rattle.ground.specs.Write.{put}
 use Rattle.gather.specs.Rule.{blank, seen, rule, leavesNone}
 use Rattle.gather.specs.Memory.{noMarks, leaves, gatherOf}
 
@@ -30,7 +31,7 @@ Right pointer-182 =
     ≡ record { next = record { held = 0x80 ∷ []; last = seen counter }; sections = []; jump = false; repeat = false; givenUp = 0 })
 -- the same on memory: one byte of the store is written, the area's first, and none of the output
 Right pointer-182-stored =
-    (counter : ℕ) (bytes store : List ℕ) (base : ℕ) (out : List ℕ) → counter ≤ 15 → length bytes ≡ 182 → base + 4096 ≤ length store → 4278 ≤ length out
+    (counter : ℕ) (bytes store : List ℕ) (base : ℕ) (out : List ℕ) → counter ≤ 15 → length bytes ≡ 182 → base + areaBytes ≤ length store → leastOutput ≤ length out
     → gatherOf noMarks counter true (182 ∷ (bytes ++ 0x80 ∷ [])) store base out
     ≡ leaves
     (given (record {

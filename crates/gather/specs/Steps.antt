@@ -4,7 +4,8 @@ use mathlib.Core.List.{List}
 use Prim.Native.Nat.{ℕ, _+_, _≤_}
 use lib.Dec.{eqb}
 use lib.ListN.{length}
-use Rattle.rules.specs.Write.{put}
+use Rattle.ground.specs.House.{areaBytes, leastOutput, payloadBytes}
+use Rattle.ground.specs.Write.{put}
 use Rattle.gather.specs.declared.Marks.{Marks}
 use Rattle.gather.specs.declared.Gathered.{Gathered}
 use Rattle.gather.specs.declared.measure.Sizes.{Sizes}
@@ -49,9 +50,9 @@ unfinishedOf held = cond (eqb held 0) 0 1
 -- the sizes with which bytes can be gathered: the held bytes within their area, the area within the store, and room for all that can be finished
 pub record Room (held : ℕ) (payload store : List ℕ) (base : ℕ) (out : List ℕ) : Type 0 where
   pub bound : held ≤ 4095
-  pub short : length payload ≤ 184
-  pub area : base + 4096 ≤ length store
-  pub output : 4278 ≤ length out
+  pub short : length payload ≤ payloadBytes
+  pub area : base + areaBytes ≤ length store
+  pub output : leastOutput ≤ length out
 
 -- the numbers of a packet that changes nothing
 abbrev pub unchangedOf : Marks → Bool → Gathered

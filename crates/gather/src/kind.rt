@@ -1,8 +1,10 @@
 // What stands where a section should.
+use octets::byte_at;
+use section::LONGEST_LENGTH;
 use section::length_of;
 ghost use mathlib.Core.Path.{_≡_};
 ghost use Prim.Native.Nat.{_≤_, _<_};
-ghost use lib.ListN.{length, drop, getD};
+ghost use lib.ListN.{length, drop};
 ghost use Rattle.gather.specs.Steps.{isPart};
 ghost use Rattle.gather.specs.Kind.{kindOf, classify};
 
@@ -31,7 +33,7 @@ pub(crate) fn kind_of(first: u8, length: usize, size: usize) -> Kind
     if size < 3 {
         return Kind::Part;
     }
-    if 4093 < length {
+    if LONGEST_LENGTH < length {
         return Kind::Overlong;
     }
     if size < 3 + length {
@@ -51,22 +53,12 @@ pub(crate) fn is_part(kind: Kind) -> bool
     }
 }
 
-// The byte at `i`, or 0 past the end.
-fn byte(s: &[u8], i: usize) -> u8
-    ensures { λ r. ⌜ r ≡ getD (now (s .entry)) i 0 ⌝ }
-{
-    if i < s.len() {
-        return s[i];
-    }
-    0
-}
-
 // The kind of the bytes from `at` on.
 pub(crate) fn kind_at(s: &[u8], at: usize) -> Kind
     requires { ⌜ at ≤ length (now s) ⌝ }
     ensures { λ r. ⌜ r ≡ classify (drop at (now (s .entry))) ⌝ }
 {
     let size = s.len() - at;
-    let length = length_of(byte(s, at + 1), byte(s, at + 2));
-    kind_of(byte(s, at), length, size)
+    let length = length_of(byte_at(s, at + 1), byte_at(s, at + 2));
+    kind_of(byte_at(s, at), length, size)
 }

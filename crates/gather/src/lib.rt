@@ -6,17 +6,26 @@ mod memory;
 use kind::is_part;
 use measure::Sizes;
 use measure::joined_kind;
-use measure::least;
 use memory::gathered;
 use memory::unfinished;
+use octets::lesser;
 ghost use mathlib.Core.Path.{_≡_};
 ghost use mathlib.Core.Bool.{true, cond};
 ghost use Prim.Native.Nat.{_≤_};
-ghost use Rattle.rules.specs.Answer.{given};
+ghost use Rattle.ground.specs.Answer.{given};
 ghost use Rattle.gather.specs.Rule.{repeats, jumps, rule};
 ghost use Rattle.gather.specs.Memory.{soundMarks, lastOf, stateOf, toldGathered, leaves, onMemory};
 ghost use Rattle.gather.specs.Promises.{TellsSound, TellsContradiction, TellsNoneLeft, Gathers};
 ghost use Rattle.gather.specs.Steps.{unfinishedOf, unchangedOf, changedOf, Room};
+
+// "Areas: 8, each 4,096 bytes".
+pub const AREA_BYTES: usize = 4096;
+
+// "Output buffer: at least 4,278 bytes".
+pub const LEAST_OUTPUT: usize = 4278;
+
+// A packet's payload has "184 bytes" at most.
+pub const PAYLOAD_BYTES: usize = 184;
 
 // What the rule reads of an area besides the held bytes.
 pub struct Marks {
@@ -54,8 +63,8 @@ pub fn sound(marks: Marks) -> bool
 pub fn contradicts(held: usize, store: &[u8], base: usize) -> bool
     ensures { λ r. ⌜ TellsContradiction held (now (store .entry)) base r ⌝ }
 {
-    let at = least(base, store.len());
-    let n = least(held, store.len() - at);
+    let at = lesser(base, store.len());
+    let n = lesser(held, store.len() - at);
     let kind = joined_kind(n, store, at, store, 0, 0);
     (n != 0) & !is_part(kind)
 }
@@ -151,11 +160,11 @@ fn accepted(
         ≡ onMemory (rule (stateOf marks (now (store .entry)) base) (record { counter = counter; start = start; payload = now (payload .entry) }))
         (now (store .entry)) base (now (out .entry)) ⌝ }
 {
-    let size = payload.len();
-    if size == 0 {
+    let is_repeat = repeats(marks, counter);
+    if payload.len() == 0 {
         return unchanged(marks, false);
     }
-    if repeats(marks, counter) {
+    if is_repeat {
         return unchanged(marks, true);
     }
     let jump = jumps(marks, counter);
@@ -183,16 +192,16 @@ pub fn gather(
     if 15 < counter {
         return Gathering::Refused(1);
     }
-    if store.len() < 4096 {
+    if store.len() < AREA_BYTES {
         return Gathering::Refused(3);
     }
-    if store.len() - 4096 < base {
+    if store.len() - AREA_BYTES < base {
         return Gathering::Refused(3);
     }
-    if out.len() < 4278 {
+    if out.len() < LEAST_OUTPUT {
         return Gathering::Refused(3);
     }
-    if 184 < payload.len() {
+    if PAYLOAD_BYTES < payload.len() {
         return Gathering::Refused(2);
     }
     Gathering::Done(accepted(marks, counter, start, payload, store, base, out))

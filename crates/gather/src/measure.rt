@@ -5,7 +5,7 @@ use crate::kind::kind_of;
 use section::length_of;
 ghost use mathlib.Core.Path.{_≡_};
 ghost use mathlib.Core.List.{_++_};
-ghost use Prim.Native.Nat.{_≤_, _+_, min};
+ghost use Prim.Native.Nat.{_≤_, _+_};
 ghost use lib.ListN.{length, drop, getD};
 ghost use Rattle.gather.specs.Kind.{classify};
 ghost use Rattle.gather.specs.Rule.{walk, add};
@@ -31,15 +31,6 @@ impl Sizes {
             given_up,
         }
     }
-}
-
-pub(crate) fn least(a: usize, b: usize) -> usize
-    ensures { λ r. ⌜ r ≡ min a b ⌝ }
-{
-    if a < b {
-        return a;
-    }
-    b
 }
 
 // A byte of the held bytes and the new ones after them, or 0 past their end.

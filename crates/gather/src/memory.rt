@@ -1,13 +1,13 @@
 // What was measured, copied: finished sections to the output, held bytes to the store.
 use crate::measure::Sizes;
 use crate::measure::added;
-use crate::measure::least;
 use crate::measure::walk;
+use octets::lesser;
 ghost use mathlib.Core.Path.{_≡_};
 ghost use mathlib.Core.List.{_++_};
 ghost use Prim.Native.Nat.{_≤_, _<_, _+_, _-_};
 ghost use lib.ListN.{length, take, drop};
-ghost use Rattle.rules.specs.Write.{put};
+ghost use Rattle.ground.specs.Write.{put};
 ghost use Rattle.gather.specs.Rule.{add, started, yield};
 ghost use Rattle.gather.specs.Memory.{stretch};
 ghost use Rattle.gather.specs.Steps.{carried, carriedAs, unfinishedOf, Room};
@@ -47,7 +47,7 @@ fn finish(
     requires { ⌜ (base + held ≤ length (now store)) × (from + (bytes - held) ≤ length (now payload)) × (bytes ≤ length (now out)) ⌝ }
     ensures { λ r. ⌜ now (out .exit) ≡ put (now (out .entry)) 0 (take bytes (stretch held (now (store .entry)) base ++ drop from (now (payload .entry)))) ⌝ }
 {
-    let first = least(bytes, held);
+    let first = lesser(bytes, held);
     copy(out, 0, store, base, first);
     copy(out, first, payload, from, bytes - first);
 }
@@ -81,7 +81,7 @@ fn started(held: usize, payload: &[u8], store: &mut [u8], base: usize, out: &mut
     ensures { λ r. ⌜ carriedAs r (now (store .exit)) (now (out .exit))
         ≡ carried (started (stretch held (now (store .entry)) base) (now (payload .entry))) (now (store .entry)) base (now (out .entry)) ⌝ }
 {
-    let from = least(1 + payload[0] as usize, payload.len());
+    let from = lesser(1 + payload[0] as usize, payload.len());
     let first = added(held, store, base, payload, 1, from - 1);
     let rest = walk(payload, from);
     finish(first.bytes, held, store, base, payload, 1, out);

@@ -5,7 +5,7 @@ use mathlib.Core.Bool.{Bool, true, false}
 use mathlib.Core.List.{List, [], _∷_}
 use Prim.Native.Nat.{ℕ}
 use Rattle.text.specs.Text.{decimalOf}
-use Rattle.rules.specs.Answer.{refused, given}
+use Rattle.ground.specs.Answer.{refused, given}
 use Rattle.driver.specs.Packet.{Said, unwanted}
 use Rattle.listing.specs.Lines.{linesOf}
 

@@ -1,4 +1,3 @@
-pub mod Bytes
 pub mod Sections
 pub mod Room
 pub mod Loop

@@ -11,7 +11,7 @@ use Rattle.text.specs.Text.{Text, withBytes}
 use Rattle.text.proofs.Laws.{next}
 use Rattle.listing.specs.Listing.{Work, afterCall, nextLines, afterCalls, printed, Lists}
 
--- ---- one turn of the loop
+-- ---- one progress of the loop
 module _ (w w′ : Work) (t t′ : Text) (bytes : List ℕ) (l : Lists (afterCall w (take 188 bytes)) (nextLines w (take 188 bytes)) t w′ t′) where
   pub work-turn : (left : ℕ) → 0 < left → afterCalls (left - 1) w′ (drop 188 bytes) ≡ afterCalls left w bytes
   work-turn zero h = absurd (not-suc-le-zero h)

@@ -1,4 +1,4 @@
--- One turn of moving bytes to the start: what is read there was not written yet.
+-- One progress of moving bytes to the start: what is read there was not written yet.
 -- Assumes nothing.
 use mathlib.Core.Path.{_≡_, sym, _∙_, ap}
 use mathlib.Core.List.{List}
@@ -7,8 +7,8 @@ use native.Mathlib.Omega.{arith}
 use native.Mathlib.Nat.{zero-add}
 use lib.ListN.{length, getD, take, drop, set, length-drop}
 use lib.Seq.{length-take-le, getD-take, getD-drop}
-use Rattle.rules.specs.Write.{put}
-use Rattle.rules.proofs.Write.{getD-after, put-turn}
+use Rattle.ground.specs.Write.{put}
+use Rattle.ground.proofs.Write.{getD-after, put-turn}
 
 module _ (d : List ℕ) (from size : ℕ) (h : from + size ≤ length d) where
   abbrev moved : List ℕ

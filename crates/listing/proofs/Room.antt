@@ -8,7 +8,7 @@ use native.Mathlib.Omega.{arith}
 use native.Mathlib.Numerals.{unary-clauses}
 use lib.Dec.{ltb}
 use lib.ListN.{length, getD, take, drop, length-append}
-use Rattle.rules.specs.Answer.{Answer, refused, given}
+use Rattle.ground.specs.Answer.{Answer, refused, given}
 use Rattle.section.specs.Section.{sectionSize}
 use Rattle.driver.specs.Packet.{Said, pidOf, packetOf}
 use Rattle.driver.proofs.Limits.{packet-limits}

@@ -4,7 +4,7 @@ use mathlib.Core.List.{List, [], _∷_, _++_}
 use Prim.Native.Nat.{ℕ, zero, suc}
 use lib.Dec.{ltb}
 use lib.ListN.{getD, drop}
-use Rattle.rules.specs.Answer.{Answer, refused, given}
+use Rattle.ground.specs.Answer.{Answer, refused, given}
 use Rattle.section.specs.Section.{sectionSize}
 use Rattle.driver.specs.Packet.{Said}
 use Rattle.text.specs.Text.{decimalOf}

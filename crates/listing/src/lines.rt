@@ -9,6 +9,8 @@ ghost use Rattle.text.specs.Text.{upTo, withBytes};
 ghost use Rattle.listing.specs.Lines.{headerLine, cellOf, lineOf, sectionWord, markOf, marksOf, sectionsOf, linesOf};
 use driver::Handling;
 use driver::Report;
+use octets::byte_at;
+use octets::number_of_three;
 
 // What stands in a column: a number, or the dash for none.
 enum Cell {
@@ -87,10 +89,10 @@ pub(crate) fn packet(
 fn pid_of(packet: &[u8]) -> u16
     ensures { λ r. ⌜ r ≡ pidOf (now (packet .entry)) ⌝ }
 {
-    let high = byte(packet, 0, 1) as u32;
-    let low = byte(packet, 0, 2) as u32;
-    let last = byte(packet, 0, 3) as u32;
-    (((high * 256 + low) * 256 + last) / 256 % 8192) as u16
+    let high = byte_at(packet, 1);
+    let low = byte_at(packet, 2);
+    let last = byte_at(packet, 3);
+    (number_of_three(high, low, last) / 256 % 8192) as u16
 }
 
 // The lines of what happened beside sections, in document 01's order.
@@ -165,9 +167,7 @@ fn byte(bytes: &[u8], place: usize, behind: usize) -> u8
     ensures { λ r. ⌜ r ≡ getD (drop place (now (bytes .entry))) behind 0 ⌝ }
 {
     if place < bytes.len() {
-        if behind < bytes.len() - place {
-            return bytes[place + behind];
-        }
+        return byte_at(&bytes[place..], behind);
     }
     0
 }

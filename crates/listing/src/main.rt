@@ -5,24 +5,25 @@ mod packets;
 ghost use Prim.Native.Nat.{_≤_};
 ghost use mathlib.Core.Path.{_≡_};
 ghost use lib.ListN.{length};
-ghost use Rattle.rules.specs.Outcome.{Stated};
+ghost use Rattle.ground.specs.Outcome.{Stated};
 ghost use Rattle.listing.specs.Listing.{beginning, most, Fits};
 ghost use Rattle.listing.specs.Claims.{Claims};
-use crate::packets::Turn;
+use crate::packets::Progress;
 use driver::Opening;
 use libc::STDIN_FILENO;
 use libc::STDOUT_FILENO;
+use packet::PACKET_BYTES;
 use pid::Pid;
 
-// The first turn, and whether its filter is open.
+// The first progress, and whether its filter is open.
 struct First {
-    turn: Turn,
+    progress: Progress,
     is_open: bool,
 }
 
 // After a piece: how many bytes of a packet are at the piece's start already, and whether to go on.
 struct Step {
-    turn: Turn,
+    progress: Progress,
     rest: usize,
     is_on: bool,
 }
@@ -41,7 +42,7 @@ fn begin() -> First
     let opened = driver::open(driver::fresh(), Pid::PROGRAM_ASSOCIATION);
     let state = opened.state;
     let answer = opened.answer;
-    let turn = Turn {
+    let progress = Progress {
         state,
         index: 0,
         at: 0,
@@ -51,11 +52,11 @@ fn begin() -> First
             number: _,
             place: _,
         } => First {
-            turn,
+            progress,
             is_open: true,
         },
         Opening::Refused(_) => First {
-            turn,
+            progress,
             is_open: false,
         },
     }
@@ -91,12 +92,12 @@ fn list_some(
         return list_end(step, got < 0, piece, store, out, text);
     }
     let end = lines::further(step.rest, io::count(got, piece), piece.len());
-    let turn = step.turn;
-    let turn = packets::list_piece(turn, piece, end, store, out, text);
+    let progress = step.progress;
+    let progress = packets::list_piece(progress, piece, end, store, out, text);
     Step {
-        turn,
-        rest: end % 188,
-        is_on: write(text, turn.at),
+        progress,
+        rest: end % PACKET_BYTES,
+        is_on: write(text, progress.at),
     }
 }
 
@@ -118,19 +119,25 @@ fn list_end(
         return last;
     }
     if 0 < step.rest {
-        let turn = step.turn;
-        let turn = packets::list_last(turn, text::first(piece, step.rest), store, out, text);
-        write(text, turn.at);
+        let progress = step.progress;
+        let progress = packets::list_last(
+            progress,
+            text::first(piece, step.rest),
+            store,
+            out,
+            text,
+        );
+        write(text, progress.at);
     }
     last
 }
 
 // A proved loop has to end, and nothing says that an input does, so it counts down from a number that no run uses up.
-fn list_all(turn: Turn, piece: &mut [u8], store: &mut [u8], out: &mut [u8], text: &mut [u8])
+fn list_all(progress: Progress, piece: &mut [u8], store: &mut [u8], out: &mut [u8], text: &mut [u8])
     requires { ⌜ Fits (now piece) (now text) ⌝ }
 {
     let mut step = Step {
-        turn,
+        progress,
         rest: 0,
         is_on: true,
     };
@@ -157,8 +164,8 @@ fn new_text() -> [u8; 376832]
 
 fn main() {
     let mut piece = new_piece();
-    let mut store = [0u8; 32768];
-    let mut out = [0u8; 4278];
+    let mut store = [0u8; driver::STORE_BYTES];
+    let mut out = [0u8; gather::LEAST_OUTPUT];
     let mut text = new_text();
     let first = begin();
     if !first.is_open {
@@ -167,7 +174,7 @@ fn main() {
     }
     let end = lines::header(&mut text, 0);
     if write(&text, end) {
-        let turn = first.turn;
-        list_all(turn, &mut piece, &mut store, &mut out, &mut text);
+        let progress = first.progress;
+        list_all(progress, &mut piece, &mut store, &mut out, &mut text);
     }
 }

@@ -9,15 +9,15 @@ use native.Mathlib.Omega.{arith}
 use borrow.Author.Tests.{ltb-false, eqb-true, eqb-false, not-false}
 use lib.Dec.{eqb, lit<, lit≤}
 use lib.ListN.{length, getD, drop, length-drop}
-use Rattle.rules.specs.Number.{numberAt}
-use Rattle.rules.specs.Refusal.{Silent}
-use Rattle.rules.proofs.Judged.{given-by}
-use Rattle.rules.proofs.Test.{both-true, neither}
+use Rattle.ground.specs.Number.{numberAt, isFlagged}
+use Rattle.ground.specs.Refusal.{Silent}
+use Rattle.ground.proofs.Judged.{given-by}
+use Rattle.ground.proofs.Test.{both-true, neither}
 use Rattle.clock.proofs.Field.{reference-of-lt}
 use Rattle.clock.specs.Range.{referenceTurn}
 use Rattle.clock.specs.Reference.{extensionOf, referenceOf}
-use Rattle.rules.specs.Perhaps.{Perhaps, there, absent, perhaps}
-use Rattle.packet.specs.Adaptation.{Span, hasField, hasFlags, flagsOf, lengthOf, isWrongLength, isWrongClock, isFlagged, isOver, clockAt, partAt, partSize, privatePlace, extensionPlace, fieldsEnd}
+use Rattle.ground.specs.Perhaps.{Perhaps, there, absent, perhaps}
+use Rattle.packet.specs.Adaptation.{Span, hasField, hasFlags, flagsOf, lengthOf, isWrongLength, isWrongClock, isOver, clockAt, partAt, partSize, privatePlace, extensionPlace, fieldsEnd}
 use Rattle.packet.specs.Packet.{Contents, headerOf, controlOf, contents, packetRefusals}
 use Rattle.packet.specs.Payload.{startAfter, startOf, payloadStart}
 use Rattle.packet.specs.Claims.Accepted.{Accepted, EveryAccepted, InRange}

@@ -1,7 +1,7 @@
 -- Nothing of an outcome is left untold, the table is exact as every table is, and an accepted packet passed it.
 -- Assumes nothing.
-use Rattle.rules.proofs.Judged.{exact}
-use Rattle.rules.proofs.Outcome.{determined, determined-told}
+use Rattle.ground.proofs.Judged.{exact}
+use Rattle.ground.proofs.Outcome.{determined, determined-told}
 use Rattle.packet.specs.Packet.{toldPacket, toldReading, packetRefusals, contents, readPacket}
 use Rattle.packet.specs.Payload.{startAfter, payloadPart}
 use Rattle.packet.specs.Claims.{Claims}

@@ -9,14 +9,14 @@ use native.Mathlib.Omega.{arith}
 use borrow.Author.Tests.{le-ltb}
 use lib.Dec.{ltb}
 use lib.ListN.{length, take, drop, length-drop}
-use Rattle.rules.specs.Answer.{Answer, refused, given}
-use Rattle.rules.specs.Number.{numberAt, numberOf}
-use Rattle.rules.specs.Refusal.{judge, _when_}
+use Rattle.ground.specs.Answer.{Answer, refused, given}
+use Rattle.ground.specs.Number.{numberAt, numberOf}
+use Rattle.ground.specs.Refusal.{judge, _when_}
 use Rattle.clock.specs.Reference.{extensionOf, referenceOf, readReference}
-use Rattle.rules.specs.Perhaps.{there}
+use Rattle.ground.specs.Perhaps.{there}
 use Rattle.packet.specs.Steps.{readClock}
-use Rattle.rules.proofs.Judged.{mapped, judge-mapped}
-use Rattle.rules.proofs.Part.{part-drop, bytesAt-drop}
+use Rattle.ground.proofs.Judged.{mapped, judge-mapped}
+use Rattle.ground.proofs.Part.{part-drop, bytesAt-drop}
 
 -- what the lone field says of its number
 abbrev ofNumber : ℕ → Answer ℕ

@@ -6,8 +6,8 @@ use mathlib.Core.List.{List, _∷_}
 use Prim.Native.Nat.{ℕ}
 use lib.IntN.{negsuc}
 use lib.ListN.{replicate}
-use Rattle.rules.specs.Answer.{given}
-use Rattle.rules.specs.Perhaps.{there, absent}
+use Rattle.ground.specs.Answer.{given}
+use Rattle.ground.specs.Perhaps.{there, absent}
 use Rattle.packet.specs.Steps.{bareField}
 use Rattle.packet.specs.Packet.{readPacket}
 use Rattle.packet.specs.Payload.{payloadStart}

@@ -7,8 +7,8 @@ use Prim.Native.Nat.{ℕ, _<_, _≤_}
 use native.Mathlib.Omega.{arith}
 use borrow.Author.Tests.{le-leb, lt-leb, ne-eqb}
 use lib.ListN.{getD}
-use Rattle.rules.specs.Answer.{given}
-use Rattle.rules.specs.Perhaps.{there, absent}
+use Rattle.ground.specs.Answer.{given}
+use Rattle.ground.specs.Perhaps.{there, absent}
 use Rattle.packet.specs.Adaptation.{isWrongLength, lengthOf}
 use Rattle.packet.specs.Steps.{bareField, readFlagged, readField}
 

@@ -4,12 +4,13 @@ use mathlib.Core.Path.{_≡_, _∙_, ap₂}
 use mathlib.Core.Bool.{false}
 use mathlib.Core.List.{List, [], _∷_}
 use Prim.Native.Nat.{ℕ}
-use Rattle.rules.specs.Answer.{Answer}
-use Rattle.rules.specs.Refusal.{_when_}
-use Rattle.rules.specs.Perhaps.{Perhaps}
-use Rattle.packet.specs.Adaptation.{Field, isOver, isFlagged, isWrongClock, opcrPlace, clockAt, flaggedField}
+use Rattle.ground.specs.Answer.{Answer}
+use Rattle.ground.specs.Refusal.{_when_}
+use Rattle.ground.specs.Perhaps.{Perhaps}
+use Rattle.ground.specs.Number.{isFlagged}
+use Rattle.packet.specs.Adaptation.{Field, isOver, isWrongClock, opcrPlace, clockAt, flaggedField}
 use Rattle.packet.specs.Steps.{readClock, readFlagged}
-use Rattle.rules.proofs.Judged.{joined, judge-joined}
+use Rattle.ground.proofs.Judged.{joined, judge-joined}
 
 -- a field with other clock references
 abbrev pub withClocks : Field → Perhaps ℕ → Perhaps ℕ → Field

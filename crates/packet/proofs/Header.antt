@@ -9,7 +9,7 @@ use lib.ListN.{length, getD}
 use Rattle.packet.specs.Adaptation.{fieldRefusals, fieldOf}
 use Rattle.packet.specs.Steps.{readField}
 use Rattle.packet.specs.Packet.{headerOf, isError, controlOf, contentsOf, readPacket}
-use Rattle.rules.proofs.Judged.{mapped, judge-mapped}
+use Rattle.ground.proofs.Judged.{mapped, judge-mapped}
 
 pub after-header : (s : List ℕ) → length s ≡ 188 → getD s 0 0 ≡ 0x47 → isError (headerOf s) ≡ false → (controlOf (headerOf s) ≡ 0 → ⊥)
     → readPacket s ≡ mapped (contentsOf (headerOf s)) (readField (controlOf (headerOf s)) s)

@@ -4,7 +4,7 @@ pub mod Flagged
 pub mod Field
 pub mod Header
 pub mod Accepted
-pub mod Lent
+pub mod PayloadSize
 pub mod Stars
 pub mod Examples
 pub mod Told

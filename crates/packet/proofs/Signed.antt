@@ -9,7 +9,7 @@ use lib.IntN.{pos, negsuc, _-ℤ_}
 use mir.Syntax.{w8}
 use mir.Val.{SFits, toZ}
 use mir.ValLaws.{toZ-pos}
-use Rattle.rules.proofs.Refusal.{yes<, no<}
+use Rattle.ground.proofs.Refusal.{yes<, no<}
 use Rattle.packet.specs.Adaptation.{signedOf}
 
 pub low : (b : ℕ) → b < 128 → toZ w8 b ≡ signedOf b

@@ -2,7 +2,7 @@
 -- Assumes nothing.
 use borrow.Author.Tests.{eq-eqb}
 use lib.ListN.{length, getD}
-use Rattle.rules.specs.Walk.{Every}
+use Rattle.ground.specs.Walk.{Every}
 use Rattle.packet.specs.Stars.{Right, cases, fieldFull}
 
 full : Right fieldFull

@@ -3,8 +3,8 @@
 use mathlib.Core.Path.{_≡_, refl}
 use Prim.Native.Nat.{ℕ}
 use lib.IntN.{ℤ}
-use Rattle.rules.specs.Answer.{Answer, refused, given}
-use Rattle.rules.specs.Perhaps.{Perhaps, there, absent}
+use Rattle.ground.specs.Answer.{Answer, refused, given}
+use Rattle.ground.specs.Perhaps.{Perhaps, there, absent}
 use Rattle.packet.specs.Adaptation.{Span, Field, toldLength, toldClock, toldCountdown, toldPart, toldField}
 use Rattle.packet.specs.Packet.{Contents, toldReading}
 use Rattle.packet.specs.declared.adaptation.Length.{Length}

@@ -5,10 +5,10 @@ use Prim.Native.Nat.{ℕ, _+_, _*_}
 use lib.Dec.{leb, ltb, eqb}
 use lib.IntN.{ℤ, pos, _-ℤ_}
 use lib.ListN.{getD}
-use Rattle.rules.specs.Number.{bits, numberAt}
-use Rattle.rules.specs.Refusal.{Row, _when_}
+use Rattle.ground.specs.Number.{bits, isFlagged, numberAt}
+use Rattle.ground.specs.Refusal.{Row, _when_}
 use Rattle.clock.specs.Reference.{extensionOf, referenceOf}
-use Rattle.rules.specs.Perhaps.{Perhaps, there, absent, perhaps}
+use Rattle.ground.specs.Perhaps.{Perhaps, there, absent, perhaps}
 use Rattle.packet.specs.declared.adaptation.Length.{Length}
 use Rattle.packet.specs.declared.adaptation.Length.the-variants as lengths
 use Rattle.packet.specs.declared.adaptation.Clock.{Clock}
@@ -96,10 +96,6 @@ flagsOf control s = cond (hasFlags control s) (getD s 5 0) 0
 -- a flag of the flags byte, by how many come after it, as 0 or 1
 abbrev pub flag : ℕ → ℕ → ℕ
 flag flags k = bits flags k 1
-
--- whether it is set
-abbrev pub isFlagged : ℕ → ℕ → Bool
-isFlagged flags k = eqb (flag flags k) 1
 
 -- ---- "then, each if flagged: PCR 6, OPCR 6, splice countdown 1 (signed), private data 1 + n, extension 1 + n": where each begins; the PCR at place 6
 -- the OPCR

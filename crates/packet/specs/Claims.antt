@@ -2,9 +2,9 @@
 pub mod Accepted
 use mathlib.Core.List.{List}
 use Prim.Native.Nat.{ℕ}
-use Rattle.rules.specs.Lent.{Lent}
-use Rattle.rules.specs.Outcome.{Determined}
-use Rattle.rules.specs.Refusal.{Exact}
+use Rattle.ground.specs.Lent.{Lent}
+use Rattle.ground.specs.Outcome.{Determined}
+use Rattle.ground.specs.Refusal.{Exact}
 use Rattle.packet.specs.Packet.{packetRefusals, readPacket}
 use Rattle.packet.specs.Promises.{ReadsPacket, FindsPayloadStart, GivesPayload}
 use Rattle.packet.specs.Claims.Accepted.{EveryAccepted}

@@ -4,9 +4,10 @@ use mathlib.Core.List.{List, [], _∷_, _++_}
 use Prim.Native.Nat.{ℕ}
 use lib.Dec.{eqb}
 use lib.ListN.{length, getD}
-use Rattle.rules.specs.Answer.{Answer, refused, given}
-use Rattle.rules.specs.Number.{bits, numberAt}
-use Rattle.rules.specs.Refusal.{Row, judge, _when_}
+use Rattle.ground.specs.House.{packetBytes}
+use Rattle.ground.specs.Answer.{Answer, refused, given}
+use Rattle.ground.specs.Number.{bits, isFlagged, numberAt}
+use Rattle.ground.specs.Refusal.{Row, judge, _when_}
 use Rattle.packet.specs.Adaptation.{Field, toldField, fieldRefusals, fieldOf}
 use Rattle.packet.specs.declared.Packet.{Packet}
 use Rattle.packet.specs.declared.Reading.{Reading}
@@ -46,7 +47,7 @@ headerOf s = numberAt s 1 3
 
 -- the error indicator
 abbrev pub isError : ℕ → Bool
-isError h = eqb (bits h 23 1) 1
+isError h = isFlagged h 23
 
 -- the adaptation control
 abbrev pub controlOf : ℕ → ℕ
@@ -56,8 +57,8 @@ controlOf h = bits h 4 2
 abbrev pub contentsOf : ℕ → Field → Contents
 contentsOf h field =
     record {
-      unitStart = eqb (bits h 22 1) 1;
-      priority = eqb (bits h 21 1) 1;
+      unitStart = isFlagged h 22;
+      priority = isFlagged h 21;
       pid = bits h 8 13;
       scrambling = bits h 6 2;
       control = controlOf h;
@@ -72,7 +73,7 @@ contents s = contentsOf (headerOf s) (fieldOf (controlOf (headerOf s)) s)
 -- "Reading a packet alone: 2, 4 to 8": the rows that look at the header
 abbrev pub headerRefusals : List ℕ → List Row
 headerRefusals s =
-    (2 when not (eqb (length s) 188))
+    (2 when not (eqb (length s) packetBytes))
     ∷ (4 when not (eqb (getD s 0 0) 0x47))
     ∷ (5 when isError (headerOf s))
     ∷ (6 when eqb (controlOf (headerOf s)) 0)

@@ -2,7 +2,7 @@
 use mathlib.Core.Path.{_≡_}
 use mathlib.Core.List.{List}
 use Prim.Native.Nat.{ℕ}
-use Rattle.rules.specs.Lent.{Lent}
+use Rattle.ground.specs.Lent.{Lent}
 use Rattle.packet.specs.Packet.{toldPacket, toldReading, readPacket}
 use Rattle.packet.specs.Payload.{startAfter, payloadPart}
 use Rattle.packet.specs.declared.Packet.{Packet}

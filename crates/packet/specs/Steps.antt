@@ -3,10 +3,11 @@ use mathlib.Core.Path.{_≡_}
 use mathlib.Core.Bool.{Bool, true, false}
 use mathlib.Core.List.{List, [], _∷_}
 use Prim.Native.Nat.{ℕ}
-use Rattle.rules.specs.Answer.{Answer, refused, given}
-use Rattle.rules.specs.Refusal.{judge, _when_}
-use Rattle.rules.specs.Perhaps.{Perhaps, absent}
-use Rattle.packet.specs.Adaptation.{Field, toldClock, toldPart, toldField, isFlagged, privatePlace, extensionPlace, fieldsEnd, partAt, isWrongClock, clockAt, flaggedField, flaggedRefusals, fieldOf, fieldRefusals}
+use Rattle.ground.specs.Answer.{Answer, refused, given}
+use Rattle.ground.specs.Refusal.{judge, _when_}
+use Rattle.ground.specs.Perhaps.{Perhaps, absent}
+use Rattle.ground.specs.Number.{isFlagged}
+use Rattle.packet.specs.Adaptation.{Field, toldClock, toldPart, toldField, privatePlace, extensionPlace, fieldsEnd, partAt, isWrongClock, clockAt, flaggedField, flaggedRefusals, fieldOf, fieldRefusals}
 use Rattle.packet.specs.declared.adaptation.Fields.{Fields}
 use Rattle.packet.specs.declared.adaptation.Fields.the-variants as fields
 use Rattle.packet.specs.declared.adaptation.Parts.{Parts}

@@ -2,7 +2,7 @@
 ghost use mathlib.Core.Path.{_≡_};
 ghost use Prim.Native.Nat.{_+_, _≤_, _<_};
 ghost use lib.ListN.{length, getD};
-ghost use Rattle.rules.specs.Perhaps.{there};
+ghost use Rattle.ground.specs.Perhaps.{there};
 ghost use Rattle.packet.specs.Adaptation.{toldLength, toldCountdown, toldPart, toldField, isWrongLength, opcrPlace, countdownPlace, privatePlace, partSize, countdownAt, signedOf, partAt};
 ghost use Rattle.packet.specs.Steps.{toldFields, toldClocked, Parted, readClock, bareField, readFlagged, readField};
 use clock::reference;

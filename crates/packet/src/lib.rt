@@ -1,17 +1,19 @@
 // Transport packets of 188 bytes: the header, the adaptation field, and the part that holds the payload.
 ghost use mathlib.Core.Path.{_≡_};
-ghost use mathlib.Core.List.{[], _∷_};
-ghost use Rattle.rules.specs.Lent.{lent};
-ghost use Rattle.rules.specs.Number.{numberOf};
+ghost use Rattle.ground.specs.Lent.{lent};
 ghost use Rattle.packet.specs.Adaptation.{toldField};
 ghost use Rattle.packet.specs.Packet.{toldPacket, isError, controlOf, contentsOf};
 ghost use Rattle.packet.specs.Promises.{ReadsPacket, FindsPayloadStart, GivesPayload};
 use crate::adaptation::Adaptation;
 use crate::adaptation::Fields;
 use crate::adaptation::Length;
+use octets::number_of_three;
 use pid::Pid;
 
 pub mod adaptation;
+
+// "188-byte transport packets".
+pub const PACKET_BYTES: usize = 188;
 
 // What a packet says, one field for each thing read.
 pub struct Packet {
@@ -27,13 +29,6 @@ pub struct Packet {
 pub enum Reading {
     Value(Packet),
     Refused(u8),
-}
-
-// The 24 bits after the sync byte.
-fn header_of(a: u8, b: u8, c: u8) -> u32
-    ensures { λ r. ⌜ r ≡ numberOf (a ∷ b ∷ c ∷ []) ⌝ }
-{
-    ((a as u32) * 256 + (b as u32)) * 256 + (c as u32)
 }
 
 // Whether the error indicator is set.
@@ -69,13 +64,13 @@ fn packet_of(header: u32, field: Adaptation) -> Packet
 pub fn read(bytes: &[u8]) -> Reading
     ensures { λ r. ⌜ ReadsPacket (now (bytes .entry)) r ⌝ }
 {
-    if bytes.len() != 188 {
+    if bytes.len() != PACKET_BYTES {
         return Reading::Refused(2);
     }
     if bytes[0] != 0x47 {
         return Reading::Refused(4);
     }
-    let header = header_of(bytes[1], bytes[2], bytes[3]);
+    let header = number_of_three(bytes[1], bytes[2], bytes[3]);
     if is_error(header) {
         return Reading::Refused(5);
     }

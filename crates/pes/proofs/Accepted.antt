@@ -8,11 +8,11 @@ use native.Mathlib.Omega.{arith}
 use borrow.Author.Tests.{ltb-false, ne-eqb}
 use lib.Dec.{ltb, eqb}
 use lib.ListN.{length}
-use Rattle.rules.specs.Answer.{given}
-use Rattle.rules.specs.Number.{numberAt}
-use Rattle.rules.specs.Refusal.{Silent}
-use Rattle.rules.proofs.Judged.{given-by}
-use Rattle.rules.proofs.Test.{neither}
+use Rattle.ground.specs.Answer.{given}
+use Rattle.ground.specs.Number.{numberAt}
+use Rattle.ground.specs.Refusal.{Silent}
+use Rattle.ground.proofs.Judged.{given-by}
+use Rattle.ground.proofs.Test.{neither}
 use Rattle.clock.proofs.Field.{stamp-of-lt}
 use Rattle.pes.specs.Stream.{isBare}
 use Rattle.pes.specs.Stamps.{none, pts, both, stampsSize, stampAt, stampsOf}

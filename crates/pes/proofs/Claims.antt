@@ -1,7 +1,7 @@
 -- Nothing of a reading is left untold, the table is exact as every table is, and an accepted header passed it.
 -- Assumes nothing.
-use Rattle.rules.proofs.Judged.{exact}
-use Rattle.rules.proofs.Outcome.{determined-told}
+use Rattle.ground.proofs.Judged.{exact}
+use Rattle.ground.proofs.Outcome.{determined-told}
 use Rattle.pes.specs.Header.{toldReading, contentsOf, headerRefusals, readHeader}
 use Rattle.pes.specs.Claims.{Claims}
 use Rattle.pes.proofs.Accepted.{accepted}

@@ -4,7 +4,7 @@ use mathlib.Core.Path.{_≡_, refl}
 use mathlib.Core.Bool.{false}
 use mathlib.Core.List.{List, [], _∷_}
 use Prim.Native.Nat.{ℕ}
-use Rattle.rules.specs.Answer.{given}
+use Rattle.ground.specs.Answer.{given}
 use Rattle.pes.specs.Stamps.{pts, both}
 use Rattle.pes.specs.Header.{full, bare, readHeader}
 

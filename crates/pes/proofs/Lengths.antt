@@ -7,12 +7,12 @@ use Prim.Native.Nat.{ℕ, _+_, _≤_}
 use borrow.Author.Tests.{le-ltb, eq-eqb, ne-eqb, ltb-false}
 use lib.Dec.{ltb}
 use lib.ListN.{length, getD}
-use Rattle.rules.specs.Number.{bits}
+use Rattle.ground.specs.Number.{bits}
 use Rattle.pes.specs.Stamps.{Times, stampRefusals, stampsOf}
 use Rattle.pes.specs.Steps.{readStamps, readOptional}
 use Rattle.pes.specs.Header.{Contents, full, fullOf, packetLengthOf, headerLengthOf, flagsOf, codeOf, fieldsSize, isOver}
-use Rattle.rules.proofs.Judged.{mapped, judge-mapped}
-use Rattle.rules.proofs.Test.{neither}
+use Rattle.ground.proofs.Judged.{mapped, judge-mapped}
+use Rattle.ground.proofs.Test.{neither}
 
 -- a header with these stamps
 abbrev pub withStamps : List ℕ → Times → Contents

@@ -8,12 +8,12 @@ use native.Mathlib.Nat.{add-zero}
 use native.Mathlib.Omega.{arith}
 use borrow.Author.Tests.{le-ltb}
 use lib.ListN.{length, take, drop, length-drop}
-use Rattle.rules.specs.Answer.{Answer, refused, given}
-use Rattle.rules.specs.Number.{numberAt, numberOf}
-use Rattle.rules.specs.Refusal.{judge, _when_}
+use Rattle.ground.specs.Answer.{Answer, refused, given}
+use Rattle.ground.specs.Number.{numberAt, numberOf}
+use Rattle.ground.specs.Refusal.{judge, _when_}
 use Rattle.clock.specs.Stamp.{isNoPrefix, isUnmarked, stampOf, readStamp}
 use Rattle.pes.specs.Stamps.{stampRefusal, stampAt}
-use Rattle.rules.proofs.Part.{part-drop, bytesAt-drop}
+use Rattle.ground.proofs.Part.{part-drop, bytesAt-drop}
 
 -- what the lone field says of its number
 abbrev ofNumber : ℕ → ℕ → Answer ℕ

@@ -6,9 +6,9 @@ use mathlib.Core.List.{List, []}
 use Prim.Native.Nat.{ℕ, _≤_}
 use borrow.Author.Tests.{le-ltb, eq-eqb}
 use lib.ListN.{length}
-use Rattle.rules.specs.Answer.{refused, given}
-use Rattle.rules.specs.Number.{numberAt}
-use Rattle.rules.specs.Refusal.{judge}
+use Rattle.ground.specs.Answer.{refused, given}
+use Rattle.ground.specs.Number.{numberAt}
+use Rattle.ground.specs.Refusal.{judge}
 use Rattle.pes.specs.Stream.{isBare, isEndless}
 use Rattle.pes.specs.Header.{bare, idOf, packetLengthOf, optionalRefusals, optionalOf, readHeader}
 use Rattle.pes.specs.Steps.{readOptional}

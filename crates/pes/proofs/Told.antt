@@ -1,7 +1,7 @@
 -- What a reading tells leaves nothing of it untold: each field of it is made again of what it tells.
 -- Assumes nothing.
 use mathlib.Core.Path.{_≡_, refl}
-use Rattle.rules.specs.Answer.{Answer, refused, given}
+use Rattle.ground.specs.Answer.{Answer, refused, given}
 use Rattle.pes.specs.Stamps.{Times, none, pts, both, toldStamps}
 use Rattle.pes.specs.Header.{Full, Contents, full, bare, toldReading}
 use Rattle.pes.specs.declared.stamps.Stamps.{Stamps}

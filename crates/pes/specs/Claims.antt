@@ -2,8 +2,8 @@
 pub mod Accepted
 use mathlib.Core.List.{List}
 use Prim.Native.Nat.{ℕ}
-use Rattle.rules.specs.Outcome.{Determined}
-use Rattle.rules.specs.Refusal.{Exact}
+use Rattle.ground.specs.Outcome.{Determined}
+use Rattle.ground.specs.Refusal.{Exact}
 use Rattle.pes.specs.Header.{headerRefusals, readHeader}
 use Rattle.pes.specs.Promises.{ReadsHeader}
 use Rattle.pes.specs.Claims.Accepted.{EveryAccepted}

@@ -4,9 +4,9 @@ use mathlib.Core.List.{List, [], _∷_, _++_}
 use Prim.Native.Nat.{ℕ, _+_, _*_}
 use lib.Dec.{ltb, eqb}
 use lib.ListN.{length, getD}
-use Rattle.rules.specs.Answer.{Answer, refused, given}
-use Rattle.rules.specs.Number.{bits, numberAt}
-use Rattle.rules.specs.Refusal.{Row, judge, _when_}
+use Rattle.ground.specs.Answer.{Answer, refused, given}
+use Rattle.ground.specs.Number.{bits, isFlagged, numberAt}
+use Rattle.ground.specs.Refusal.{Row, judge, _when_}
 use Rattle.pes.specs.Stream.{isBare, isEndless}
 use Rattle.pes.specs.Stamps.{Times, toldStamps, stampsSize, stampRefusals, stampsOf}
 use Rattle.pes.specs.declared.Header.{Header}
@@ -114,10 +114,6 @@ abbrev pub headerRefusals : List ℕ → List Row
 headerRefusals s = startRefusals s ++ cond (isBare (idOf s)) [] (optionalRefusals s)
 
 -- ---- what is read
--- whether the flag with k after it is set
-abbrev pub isFlagged : ℕ → ℕ → Bool
-isFlagged flags k = eqb (bits flags k 1) 1
-
 -- the header with these stamps
 abbrev pub fullOf : List ℕ → Times → Full
 fullOf s times =

@@ -3,8 +3,8 @@ use mathlib.Core.Bool.{cond}
 use mathlib.Core.List.{List, [], _∷_}
 use Prim.Native.Nat.{ℕ}
 use lib.Dec.{eqb}
-use Rattle.rules.specs.Number.{numberAt}
-use Rattle.rules.specs.Refusal.{Row, _when_}
+use Rattle.ground.specs.Number.{numberAt}
+use Rattle.ground.specs.Refusal.{Row, _when_}
 use Rattle.clock.specs.Stamp.{stampOf, isUnmarked}
 use Rattle.pes.specs.declared.stamps.Stamps.{Stamps}
 use Rattle.pes.specs.declared.stamps.Stamps.the-variants as stamps

@@ -1,8 +1,8 @@
 -- What the private functions promise each other, in terms of the definitions; no public promise cites it.
 use mathlib.Core.List.{List}
 use Prim.Native.Nat.{ℕ}
-use Rattle.rules.specs.Answer.{Answer, refused, given}
-use Rattle.rules.specs.Refusal.{judge}
+use Rattle.ground.specs.Answer.{Answer, refused, given}
+use Rattle.ground.specs.Refusal.{judge}
 use Rattle.pes.specs.Stamps.{Times, toldStamps, stampRefusals, stampsOf}
 use Rattle.pes.specs.Header.{Contents, optionalRefusals, optionalOf}
 use Rattle.pes.specs.declared.stamps.Stamped.{Stamped}

@@ -1,14 +1,15 @@
 // PES headers: what stands before the data of a PES packet.
 ghost use mathlib.Core.Path.{_≡_};
-ghost use mathlib.Core.List.{[], _∷_};
 ghost use Prim.Native.Nat.{_≤_};
 ghost use lib.ListN.{getD};
-ghost use Rattle.rules.specs.Number.{numberOf, numberAt};
+ghost use Rattle.ground.specs.Number.{numberAt};
 ghost use Rattle.pes.specs.Header.{toldReading, fieldsSize, isOver};
 ghost use Rattle.pes.specs.Promises.{ReadsHeader};
 ghost use Rattle.pes.specs.Steps.{readOptional};
 use crate::stamps::Stamped;
 use crate::stamps::Stamps;
+use octets::number_of_three;
+use octets::number_of_two;
 
 pub mod stamps;
 mod stream;
@@ -32,20 +33,6 @@ pub enum Reading {
     Value(Header),
     Bare { stream_id: u8, packet_length: u16 },
     Refused(u8),
-}
-
-// The 24 bits of three bytes.
-fn start_of(a: u8, b: u8, c: u8) -> u32
-    ensures { λ r. ⌜ r ≡ numberOf (a ∷ b ∷ c ∷ []) ⌝ }
-{
-    ((a as u32) * 256 + (b as u32)) * 256 + (c as u32)
-}
-
-// The 16 bits of two bytes.
-fn length_of(a: u8, b: u8) -> u16
-    ensures { λ r. ⌜ r ≡ numberOf (a ∷ b ∷ []) ⌝ }
-{
-    (a as u16) * 256 + (b as u16)
 }
 
 // How many bytes the flagged fields have at least.
@@ -116,7 +103,7 @@ pub fn read(bytes: &[u8]) -> Reading
     if bytes.len() < 6 {
         return Reading::Refused(30);
     }
-    let start = start_of(bytes[0], bytes[1], bytes[2]);
+    let start = number_of_three(bytes[0], bytes[1], bytes[2]);
     if start != 1 {
         return Reading::Refused(31);
     }
@@ -124,7 +111,7 @@ pub fn read(bytes: &[u8]) -> Reading
     if id < 0xBC {
         return Reading::Refused(32);
     }
-    let size = length_of(bytes[4], bytes[5]);
+    let size = number_of_two(bytes[4], bytes[5]);
     if stream::is_endless(id, size) {
         return Reading::Refused(37);
     }

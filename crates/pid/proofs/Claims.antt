@@ -2,9 +2,9 @@
 -- Assumes nothing.
 use mathlib.Core.Path.{_≡_, refl}
 use Prim.Native.Nat.{ℕ}
-use Rattle.rules.specs.Answer.{Answer, refused, given}
-use Rattle.rules.proofs.Judged.{exact}
-use Rattle.rules.proofs.Outcome.{determined-told}
+use Rattle.ground.specs.Answer.{Answer, refused, given}
+use Rattle.ground.proofs.Judged.{exact}
+use Rattle.ground.proofs.Outcome.{determined-told}
 use Rattle.pid.specs.Pid.{toldPid, pidRefusals, makePid}
 use Rattle.pid.specs.Claims.{Claims}
 use Rattle.pid.specs.declared.Making.{Making}

@@ -1,7 +1,7 @@
 -- What is claimed of the definitions and the promises, and proved.
 use Prim.Native.Nat.{ℕ}
-use Rattle.rules.specs.Outcome.{Determined}
-use Rattle.rules.specs.Refusal.{Exact}
+use Rattle.ground.specs.Outcome.{Determined}
+use Rattle.ground.specs.Refusal.{Exact}
 use Rattle.pid.specs.Pid.{pidRefusals, makePid}
 use Rattle.pid.specs.Promises.{MakesPid}
 

@@ -2,8 +2,9 @@
 use mathlib.Core.List.{List, [], _∷_}
 use Prim.Native.Nat.{ℕ}
 use lib.Dec.{ltb}
-use Rattle.rules.specs.Answer.{Answer, refused, given}
-use Rattle.rules.specs.Refusal.{Row, judge, _when_}
+use Rattle.ground.specs.House.{lastPid}
+use Rattle.ground.specs.Answer.{Answer, refused, given}
+use Rattle.ground.specs.Refusal.{Row, judge, _when_}
 use Rattle.pid.specs.declared.Making.{Making}
 use Rattle.pid.specs.declared.Making.the-variants as making
 
@@ -14,7 +15,7 @@ toldPid (making.Refused n) = refused n
 
 -- "12: making a PID above 0x1FFF"
 abbrev pub pidRefusals : ℕ → List Row
-pidRefusals n = (12 when ltb 0x1FFF n) ∷ []
+pidRefusals n = (12 when ltb lastPid n) ∷ []
 
 abbrev pub makePid : ℕ → Answer ℕ
 makePid n = judge refused (pidRefusals n) (given n)

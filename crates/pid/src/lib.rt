@@ -22,7 +22,7 @@ impl Pid {
     pub fn new(n: u16) -> Making
         ensures { λ r. ⌜ MakesPid n r ⌝ }
     {
-        if 0x1FFF < n {
+        if Pid::NULL.0 < n {
             return Making::Refused(12);
         }
         Making::Value(Pid(n))

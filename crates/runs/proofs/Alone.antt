@@ -8,17 +8,17 @@ use native.Mathlib.Omega.{arith}
 use borrow.Author.Tests.{eqb-true, ne-eqb, lt-ltb}
 use lib.Dec.{eqb}
 use lib.ListN.{length}
-use Rattle.rules.specs.Answer.{Answer, refused, given}
-use Rattle.rules.specs.Perhaps.{there}
-use Rattle.rules.specs.Refusal.{Row, judge}
-use Rattle.rules.specs.Walk.{keep}
-use Rattle.rules.proofs.Judged.{judge-seen}
-use Rattle.rules.proofs.Walk.{keep-append, keep-kept}
+use Rattle.ground.specs.Answer.{Answer, refused, given}
+use Rattle.ground.specs.Perhaps.{there}
+use Rattle.ground.specs.Refusal.{Row, judge}
+use Rattle.ground.specs.Walk.{keep}
+use Rattle.ground.proofs.Judged.{judge-seen}
+use Rattle.ground.proofs.Walk.{keep-append, keep-kept}
 use Rattle.gather.specs.Rule.{Packet}
 use Rattle.driver.specs.Open.{Place}
 use Rattle.driver.specs.Packet.{Said, unwanted, pidOf, packetFrom, report}
 use Rattle.runs.specs.Run.{Call, openCall, closeCall, packetCall, World, Event, openEvent, closeEvent, packetEvent, ours}
-use Rattle.runs.specs.History.{Opening, Accepted, opened, closed, packet, acceptedBy, numbersGiven, opens, closes, openingOf, isClosed, hasArea, packets, since, upToClose, handed, completed}
+use Rattle.runs.specs.History.{Opening, Accepted, opened, closed, packet, acceptedBy, numbersGiven, opens, closes, openingOf, isClosed, moreOpens, packets, since, upToClose, handed, completed}
 use Rattle.runs.specs.Answers.{lowestFree, openRows, isGiven, earlyRows, lateRows, outcomeAfter, placesAfter, written, packetAnswer, answerTo}
 use Rattle.runs.specs.Demand.{worldAfter, history, concerns, isOwn}
 use Rattle.runs.proofs.Ledger.{filterAt, IsOpen, Ledger, all-before, stood, busy, still-taken}
@@ -84,12 +84,12 @@ judge-same (row ∷ rows) x y e = go (row .applies) (judge-same rows x y e)
 packet-seen {ℓ} : {A : Type ℓ} (see : Event → A) (h : List Accepted) (p lent : List ℕ)
     → see (packetAnswer h p lent)
     ≡ judge (λ n. see (packetEvent p lent (refused n) lent)) (earlyRows p lent)
-    (cond (hasArea (pidOf p) h)
+    (cond (moreOpens (pidOf p) h)
     (judge (λ n. see (packetEvent p lent (refused n) lent)) (lateRows p)
     (see (packetEvent p lent (given (report (outcomeAfter h p) (placesAfter h (pidOf p)))) (written (outcomeAfter h p) lent))))
     (see (packetEvent p lent (given unwanted) lent)))
 packet-seen see h p lent =
-    judge-seen see refuse (earlyRows p lent) _ ∙ ap (judge (λ n. see (refuse n)) (earlyRows p lent)) (either (hasArea (pidOf p) h) ∙ ap (λ x. cond (hasArea (pidOf p) h) x (see none)) (judge-seen see refuse (lateRows p) takes))
+    judge-seen see refuse (earlyRows p lent) _ ∙ ap (judge (λ n. see (refuse n)) (earlyRows p lent)) (either (moreOpens (pidOf p) h) ∙ ap (λ x. cond (moreOpens (pidOf p) h) x (see none)) (judge-seen see refuse (lateRows p) takes))
   where
     refuse : ℕ → Event
     refuse n = packetEvent p lent (refused n) lent
@@ -109,7 +109,7 @@ packet-unseen {ℓ} : {A : Type ℓ} (see : List Accepted → A) (h : List Accep
     → ((r : Said) (out : List ℕ) → see (packet p lent r out ∷ h) ≡ see h) → see (acceptedBy (packetAnswer h p lent) ++ h) ≡ see h
 packet-unseen see h p lent same =
     packet-seen (λ (e : Event). see (acceptedBy e ++ h)) h p lent
-    ∙ judge-same (earlyRows p lent) (see h) _ (go (hasArea (pidOf p) h) (judge-same (lateRows p) (see h) _ (same _ _)))
+    ∙ judge-same (earlyRows p lent) (see h) _ (go (moreOpens (pidOf p) h) (judge-same (lateRows p) (see h) _ (same _ _)))
   where
     go : (b : Bool) {x : _} → x ≡ see h → cond b x (see h) ≡ see h
     go true e = e
@@ -218,12 +218,12 @@ module _ (w : World) (h : List Accepted) (l : Ledger w h) (f : Opening) (came : 
           out : List ℕ
           out = written (outcomeAfter h p) lent
 
-          has : hasArea (pidOf p) h ≡ true
+          has : moreOpens (pidOf p) h ≡ true
           has =
               let st = stood w h l f (is-open k) in
               let some = busy w h l (filterAt (w .state) (f .place) .area) (f .pid) (st .area) (st .used) (st .pid) in
               let even = l .balance (f .pid) in
-              ap (λ (q : ℕ). hasArea q h) (eqb-true (pidOf p) (f .pid) e) ∙ lt-ltb (closes (f .pid) h) (opens (f .pid) h) (omega arith)
+              ap (λ (q : ℕ). moreOpens q h) (eqb-true (pidOf p) (f .pid) e) ∙ lt-ltb (closes (f .pid) h) (opens (f .pid) h) (omega arith)
 
           taken-one : status f (packet p lent r out ∷ h) ≡ (isClosed n h, one-more true p (owed f h))
           taken-one =

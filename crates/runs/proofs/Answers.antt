@@ -10,32 +10,32 @@ use native.Mathlib.Omega.{arith}
 use borrow.Author.Tests.{eqb-true, eq-eqb, ne-eqb, lt-ltb, le-ltb, le-leb, lt-leb, ltb-true}
 use lib.Dec.{eqb, ltb, leb}
 use lib.ListN.{length, drop, getD}
-use Rattle.rules.specs.Answer.{refused, given}
-use Rattle.rules.specs.Perhaps.{Perhaps, there, absent}
-use Rattle.rules.specs.Refusal.{judge}
-use Rattle.rules.specs.Set.{setOf}
-use Rattle.rules.specs.Walk.{find}
-use Rattle.rules.specs.Write.{put}
-use Rattle.rules.proofs.Judged.{judge-seen}
-use Rattle.rules.proofs.Test.{true-both}
-use Rattle.rules.proofs.Set.{set-tests}
-use Rattle.rules.proofs.Walk.{tests-same, find-tests, find-full, find-first, passes-inside}
+use Rattle.ground.specs.Answer.{refused, given}
+use Rattle.ground.specs.Perhaps.{Perhaps, there, absent}
+use Rattle.ground.specs.Refusal.{judge}
+use Rattle.ground.specs.Set.{setOf}
+use Rattle.ground.specs.Walk.{find}
+use Rattle.ground.specs.Write.{put}
+use Rattle.ground.proofs.Judged.{judge-seen}
+use Rattle.ground.proofs.Test.{true-both}
+use Rattle.ground.proofs.Set.{set-tests}
+use Rattle.ground.proofs.Walk.{tests-same, find-tests, find-full, find-first, passes-inside}
 use Rattle.packet.specs.Packet.{packetRefusals}
 use Rattle.gather.specs.Rule.{Outcome, rule}
 use Rattle.gather.specs.Kind.{join}
 use Rattle.gather.specs.Memory.{stateOf}
-use Rattle.driver.specs.State.{isUsed, isOpen, isFree, standsOn, areaOf, placeOf, baseOf, freePlaceOf, freeFilter}
-use Rattle.driver.specs.Open.{AfterOpen, isHeld, areaFor, openRefusals, opened as openedState, openOf}
+use Rattle.driver.specs.State.{isUsed, isOpen, isFree, standsOn, areaOf, placeOf, areaStart, freePlaceOf, freeFilter}
+use Rattle.driver.specs.Open.{AfterOpen, hasArea, areaFor, openRefusals, opened as openedState, openOf}
 use Rattle.driver.specs.Close as close
 use Rattle.driver.specs.Close.{closeOf}
-use Rattle.driver.specs.Packet.{After, unwanted, still, pidOf, packetFrom, placesOn, report, outcome, putBack, firstRefusals, lastRefusals, afterReading, afterTests, packetOf}
-use Rattle.driver.specs.declared.Area.{Area}
-use Rattle.driver.specs.declared.Filter.{Filter}
-use Rattle.driver.specs.declared.State.{State}
+use Rattle.driver.specs.Packet.{AfterPacket, unwanted, asGiven, pidOf, packetFrom, placesOn, report, outcome, putBack, firstRefusals, lastRefusals, afterReading, afterTests, packetOf}
+use Rattle.driver.specs.declared.state.Area.{Area}
+use Rattle.driver.specs.declared.state.Filter.{Filter}
+use Rattle.driver.specs.declared.state.State.{State}
 use Rattle.driver.proofs.Clauses.{open-stands, used-inside}
 use Rattle.driver.proofs.Found.{has-pid, found-area, found-place}
 use Rattle.runs.specs.Run.{Call, openCall, closeCall, packetCall, World, Event, openEvent, closeEvent, packetEvent, event, ours}
-use Rattle.runs.specs.History.{Opening, Accepted, opened, closed, packet, numbersGiven, openingOf, isOn, isClosed, hasArea, standing, areasTaken, packets, remembered}
+use Rattle.runs.specs.History.{Opening, Accepted, opened, closed, packet, numbersGiven, openingOf, isOn, isClosed, moreOpens, standing, areasTaken, packets, remembered}
 use Rattle.runs.specs.Answers.{isAbsent, lowestFree, openAnswer, isGiven, closeAnswer, earlyRows, lateRows, outcomeAfter, placesAfter, written, packetAnswer, answerTo}
 use Rattle.runs.proofs.Ledger.{areaAt, filterAt, openingAt, seatAt, Ledger, stood, held-area, single, standing-long}
 use Rattle.runs.proofs.Steps.{fine, agrees}
@@ -78,10 +78,10 @@ module _ (w : World) (h : List Accepted) (l : Ledger w h) where
       ∙ ap (find (λ (b : Bool). b)) (tests-same isFree isAbsent (s .filters) (standing h) freeFilter absent (l .places ∙ sym (standing-long h)) (λ j b. free-seat j))
       ∙ sym (find-tests isAbsent (standing h))
 
-  no-area : (pid : ℕ) → leb (length (w .state .areas)) (areaFor pid (w .state .areas)) ≡ (not (hasArea pid h) && leb 8 (areasTaken h))
-  no-area pid = go (isHeld pid (s .areas)) refl ∙ ap (λ (b : Bool). not b && leb 8 (areasTaken h)) (held-area w h l pid)
+  no-area : (pid : ℕ) → leb (length (w .state .areas)) (areaFor pid (w .state .areas)) ≡ (not (moreOpens pid h) && leb 8 (areasTaken h))
+  no-area pid = go (hasArea pid (s .areas)) refl ∙ ap (λ (b : Bool). not b && leb 8 (areasTaken h)) (held-area w h l pid)
     where
-      go : (b : Bool) → isHeld pid (s .areas) ≡ b → leb (length (s .areas)) (areaFor pid (s .areas)) ≡ (not (isHeld pid (s .areas)) && leb 8 (areasTaken h))
+      go : (b : Bool) → hasArea pid (s .areas) ≡ b → leb (length (s .areas)) (areaFor pid (s .areas)) ≡ (not (hasArea pid (s .areas)) && leb 8 (areasTaken h))
       go true e = rw e (lt-leb (length (s .areas)) (areaOf pid (s .areas)) (ltb-true (areaOf pid (s .areas)) (length (s .areas)) e))
       go false e = rw e (find-full (λ (a : Area). eqb (a .users) 0) (s .areas) ∙ ap₂ leb (l .eight) (l .busyAreas))
 
@@ -124,7 +124,7 @@ module _ (w : World) (h : List Accepted) (l : Ledger w h) where
   close-is : (number : ℕ) → closeOf (w .state) number .answer ≡ closeAnswer h number
   unfolding closeOf
   close-is number =
-      judge-seen (λ (o : close.Outcome). o .answer) (λ n. record { answer = refused n; state = s }) (close.closeRefusals s number)
+      judge-seen (λ (o : close.AfterClose). o .answer) (λ n. record { answer = refused n; state = s }) (close.closeRefusals s number)
       (record { answer = given tt; state = close.withoutFilter s (placeOf number (s .filters)) })
       ∙ rw (fine w h l, not-given number)
 
@@ -164,7 +164,7 @@ module _ (w : World) (h : List Accepted) (l : Ledger w h) where
         ∙ sym (set-tests (isOn pid) (standing h))
 
     -- what the area remembers
-    from : stateOf (areaAt (w .state) (areaOf pid (w .state .areas)) .marks) (w .store) (baseOf (areaOf pid (w .state .areas))) ≡ remembered (packets pid h)
+    from : stateOf (areaAt (w .state) (areaOf pid (w .state .areas)) .marks) (w .store) (areaStart (areaOf pid (w .state .areas))) ≡ remembered (packets pid h)
     from = l .remembers own b (mine .0) ∙ ap (λ (q : ℕ). remembered (packets q h)) (mine .1)
 
   -- the sections joined, and then what was lent
@@ -176,7 +176,7 @@ module _ (w : World) (h : List Accepted) (l : Ledger w h) where
     abbrev home : ℕ
     home = areaOf (pidOf p) (s .areas)
 
-    abbrev see : After → Event
+    abbrev see : AfterPacket → Event
     see o = packetEvent p lent (o .answer) (o .out)
 
     abbrev refuse : ℕ → Event
@@ -193,25 +193,25 @@ module _ (w : World) (h : List Accepted) (l : Ledger w h) where
         ap₂ (λ (o : Outcome) (n : ℕ). packetEvent p lent (given (report o n)) (put lent 0 (join (o .sections)))) (outcome-is b) (places-are (pidOf p) b)
         ∙ ap (packetEvent p lent (given (report (outcomeAfter h p) (placesAfter h (pidOf p))))) (written-is (outcomeAfter h p) lent)
 
-    reading-is : see (afterReading s home p (w .store) lent) ≡ cond (hasArea (pidOf p) h) (judge refuse (lateRows p) takes) (packetEvent p lent (given unwanted) lent)
+    reading-is : see (afterReading s home p (w .store) lent) ≡ cond (moreOpens (pidOf p) h) (judge refuse (lateRows p) takes) (packetEvent p lent (given unwanted) lent)
     reading-is = go (decLt home (length (s .areas)))
       where
-        go : Dec (home < length (s .areas)) → see (afterReading s home p (w .store) lent) ≡ cond (hasArea (pidOf p) h) (judge refuse (lateRows p) takes) (packetEvent p lent (given unwanted) lent)
+        go : Dec (home < length (s .areas)) → see (afterReading s home p (w .store) lent) ≡ cond (moreOpens (pidOf p) h) (judge refuse (lateRows p) takes) (packetEvent p lent (given unwanted) lent)
         go (yes b) =
-            ap (λ (c : Bool). see (cond c (still s (w .store) lent (given unwanted)) (afterTests s home p (w .store) lent))) (lt-leb (length (s .areas)) home b)
-            ∙ judge-seen see (λ n. still s (w .store) lent (refused n)) (lastRefusals s home p (w .store)) (putBack s home (outcome s home p (w .store)) (w .store) lent)
+            ap (λ (c : Bool). see (cond c (asGiven s (w .store) lent (given unwanted)) (afterTests s home p (w .store) lent))) (lt-leb (length (s .areas)) home b)
+            ∙ judge-seen see (λ n. asGiven s (w .store) lent (refused n)) (lastRefusals s home p (w .store)) (putBack s home (outcome s home p (w .store)) (w .store) lent)
             ∙ ap (λ (c : Bool). cond c (refuse 9) (judge refuse (lateRows p) (see (putBack s home (outcome s home p (w .store)) (w .store) lent)))) (agrees w h l (pidOf p) b)
             ∙ ap (judge refuse (lateRows p)) (taken-is b)
             ∙ ap (λ (c : Bool). cond c (judge refuse (lateRows p) takes) (packetEvent p lent (given unwanted) lent)) (sym (sym (held-area w h l (pidOf p)) ∙ lt-ltb home (length (s .areas)) b))
         go (no n) =
-            ap (λ (c : Bool). see (cond c (still s (w .store) lent (given unwanted)) (afterTests s home p (w .store) lent))) (le-leb (length (s .areas)) home (omega arith))
+            ap (λ (c : Bool). see (cond c (asGiven s (w .store) lent (given unwanted)) (afterTests s home p (w .store) lent))) (le-leb (length (s .areas)) home (omega arith))
             ∙ ap (λ (c : Bool). cond c (judge refuse (lateRows p) takes) (packetEvent p lent (given unwanted) lent))
             (sym (sym (held-area w h l (pidOf p)) ∙ le-ltb home (length (s .areas)) (omega arith)))
 
     packet-is : event ours w (packetCall p lent) ≡ packetAnswer h p lent
     unfolding packetOf
     packet-is =
-        judge-seen see (λ n. still s (w .store) lent (refused n)) (firstRefusals s p (w .store) lent) (afterReading s home p (w .store) lent)
+        judge-seen see (λ n. asGiven s (w .store) lent (refused n)) (firstRefusals s p (w .store) lent) (afterReading s home p (w .store) lent)
         ∙ ap₂ (λ (b c : Bool). cond (not b) (refuse 1) (cond (not c || ltb (length lent) 4278) (refuse 3) (judge refuse (packetRefusals p) (see (afterReading s home p (w .store) lent)))))
         (fine w h l) (eq-eqb (length (w .store)) 32768 (l .whole))
         ∙ ap (judge refuse (earlyRows p lent)) reading-is

@@ -7,19 +7,19 @@ use Prim.Native.Nat.{ℕ}
 use native.Mathlib.Omega.{arith}
 use borrow.Author.Tests.{ltb-true}
 use lib.ListN.{length}
-use Rattle.rules.specs.Answer.{refused, given}
-use Rattle.rules.specs.Set.{isIn}
-use Rattle.rules.specs.Write.{put}
-use Rattle.rules.proofs.Set.{in-set}
-use Rattle.rules.proofs.Test.{and-false}
+use Rattle.ground.specs.Answer.{refused, given}
+use Rattle.ground.specs.Set.{isIn}
+use Rattle.ground.specs.Write.{put}
+use Rattle.ground.proofs.Set.{in-set}
+use Rattle.ground.proofs.Test.{and-false}
 use Rattle.gather.specs.Rule.{Outcome}
 use Rattle.gather.specs.Kind.{join}
-use Rattle.driver.specs.State.{standsOn, areaOf, baseOf, freeFilter}
-use Rattle.driver.specs.Open.{Place, isHeld}
+use Rattle.driver.specs.State.{standsOn, areaOf, areaStart, freeFilter}
+use Rattle.driver.specs.Open.{Place, hasArea}
 use Rattle.driver.specs.Packet.{Said, unwanted, pidOf, placesOn, report, outcome}
-use Rattle.driver.specs.declared.State.{State}
+use Rattle.driver.specs.declared.state.State.{State}
 use Rattle.driver.proofs.Found.{found-area}
-use Rattle.driver.proofs.Ways.{Handles, open-ind, packet-ind}
+use Rattle.driver.proofs.Cases.{Handles, open-ind, packet-ind}
 use Rattle.runs.specs.Run.{openCall, closeCall, packetCall, World, openEvent, closeEvent, packetEvent, after, event, start, ours}
 use Rattle.runs.specs.History.{Accepted, isAccepted, openingOf, isClosed}
 use Rattle.runs.specs.Answers.{isAbsent, outcomeAfter, written}
@@ -35,7 +35,7 @@ module _ (w : World) (h : List Accepted) (l : Ledger w h) where
   abbrev s : State
   s = w .state
 
-  apart : (pid other : ℕ) → isHeld pid (w .state .areas) ≡ true → areaOf pid (w .state .areas) ≡ areaOf other (w .state .areas) → pid ≡ other
+  apart : (pid other : ℕ) → hasArea pid (w .state .areas) ≡ true → areaOf pid (w .state .areas) ≡ areaOf other (w .state .areas) → pid ≡ other
   apart pid other e same =
       let b = ltb-true (areaOf pid (s .areas)) (length (s .areas)) e in
       sym (found-area pid (s .areas) b .1) ∙ ap (λ (i : ℕ). areaAt s i .pid .0) same ∙ found-area other (s .areas) (rw same at b) .1
@@ -82,12 +82,12 @@ module _ (w : World) (h : List Accepted) (l : Ledger w h) where
           }
 
   writes : (p lent : List ℕ) → isAccepted (event ours w (packetCall p lent)) ≡ true
-      → after ours w (packetCall p lent) .store ≡ put (w .store) (baseOf (areaOf (pidOf p) (w .state .areas))) (outcomeAfter h p .next .held)
+      → after ours w (packetCall p lent) .store ≡ put (w .store) (areaStart (areaOf (pidOf p) (w .state .areas))) (outcomeAfter h p .next .held)
   writes p lent =
       packet-ind s p (w .store) lent
-      (λ o. isAccepted (packetEvent p lent (o .answer) (o .out)) ≡ true → o .store ≡ put (w .store) (baseOf (areaOf (pidOf p) (s .areas))) (outcomeAfter h p .next .held))
+      (λ o. isAccepted (packetEvent p lent (o .answer) (o .out)) ≡ true → o .store ≡ put (w .store) (areaStart (areaOf (pidOf p) (s .areas))) (outcomeAfter h p .next .held))
       (λ n a b e. absurd (false≢true e)) (λ b e. absurd (false≢true e))
-      (λ k e. ap (λ (o : Outcome). put (w .store) (baseOf (areaOf (pidOf p) (s .areas))) (o .next .held)) (outcome-is w h l p lent (k .area)))
+      (λ k e. ap (λ (o : Outcome). put (w .store) (areaStart (areaOf (pidOf p) (s .areas))) (o .next .held)) (outcome-is w h l p lent (k .area)))
 
 pub statement : Statement ours
 statement store calls e =

@@ -4,9 +4,9 @@ use mathlib.Core.Path.{_≡_, refl}
 use mathlib.Core.List.{List, [], _∷_, _++_}
 use Prim.Native.Nat.{ℕ}
 use lib.ListN.{take, replicate}
-use Rattle.rules.specs.Perhaps.{there, absent}
-use Rattle.rules.specs.Answer.{refused, given}
-use Rattle.rules.specs.Write.{put}
+use Rattle.ground.specs.Perhaps.{there, absent}
+use Rattle.ground.specs.Answer.{refused, given}
+use Rattle.ground.specs.Write.{put}
 use Rattle.gather.specs.Rule.{rule, walk, add, started}
 use Rattle.gather.specs.Kind.{classify, kindOf}
 use Rattle.driver.specs.Open.{openOf}

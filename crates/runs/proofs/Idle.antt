@@ -3,8 +3,8 @@
 use mathlib.Core.Path.{_≡_, refl, sym, _∙_, ap, ap₂}
 use mathlib.Core.Bool.{Bool, true, false, cond, false≢true}
 use mathlib.Core.List.{List, [], _∷_}
-use Rattle.rules.specs.Walk.{keep}
-use Rattle.driver.proofs.Ways.{open-ind, close-ind, packet-ind}
+use Rattle.ground.specs.Walk.{keep}
+use Rattle.driver.proofs.Cases.{open-ind, close-ind, packet-ind}
 use Rattle.runs.specs.Run.{Call, openCall, closeCall, packetCall, World, Event, openEvent, closeEvent, packetEvent, after, event, runFrom, logFrom, ours}
 use Rattle.runs.specs.History.{isAccepted}
 use Rattle.runs.specs.Demand.{heededFrom}

@@ -9,26 +9,26 @@ use native.Mathlib.Decide.{decLt}
 use borrow.Author.Tests.{ne-eqb, lt-ltb, le-ltb}
 use lib.Dec.{eqb}
 use lib.ListN.{length, getD, length-set, length-map, length-replicate}
-use Rattle.rules.specs.Walk.{total, count, Every}
-use Rattle.rules.proofs.Test.{neither, and-false}
-use Rattle.rules.proofs.Walk.{total-at, total-none, total-one, find-first}
-use Rattle.rules.specs.Perhaps.{Perhaps, there, absent}
+use Rattle.ground.specs.Walk.{total, count, Every}
+use Rattle.ground.proofs.Test.{neither, and-false}
+use Rattle.ground.proofs.Walk.{total-at, total-none, total-one, find-first}
+use Rattle.ground.specs.Perhaps.{Perhaps, there, absent}
 use Rattle.gather.specs.Rule
 use Rattle.gather.specs.Rule.{Packet}
 use Rattle.gather.specs.Kind.{contradicting}
 use Rattle.gather.specs.Memory.{stateOf}
-use Rattle.gather.proofs.Laws.{rule-keeps}
-use Rattle.driver.specs.State.{isUsed, isOpen, hasPid, areaOf, baseOf, freeArea, freeFilter}
-use Rattle.driver.specs.Open.{isHeld}
+use Rattle.gather.proofs.RuleKeeps.{rule-keeps}
+use Rattle.driver.specs.State.{isUsed, isOpen, hasPid, areaOf, areaStart, freeArea, freeFilter}
+use Rattle.driver.specs.Open.{hasArea}
 use Rattle.driver.specs.Packet.{Said}
-use Rattle.driver.specs.declared.Area.{Area}
-use Rattle.driver.specs.declared.Filter.{Filter}
-use Rattle.driver.specs.declared.State.{State}
+use Rattle.driver.specs.declared.state.Area.{Area}
+use Rattle.driver.specs.declared.state.Filter.{Filter}
+use Rattle.driver.specs.declared.state.State.{State}
 use Rattle.driver.proofs.Clauses.{Clauses, open-stands, used-inside, used-some}
-use Rattle.driver.proofs.KeepsOpen.{only-one}
+use Rattle.driver.proofs.OpenStaysSound.{only-one}
 use Rattle.driver.proofs.Found.{has-pid, found-area}
 use Rattle.runs.specs.Run.{World}
-use Rattle.runs.specs.History.{Opening, Accepted, opened, closed, packet, numbersGiven, opens, closes, openingOf, isClosed, hasArea, standing, areasTaken, packets, since, upToClose, handed, remembered, completed}
+use Rattle.runs.specs.History.{Opening, Accepted, opened, closed, packet, numbersGiven, opens, closes, openingOf, isClosed, moreOpens, standing, areasTaken, packets, since, upToClose, handed, remembered, completed}
 use Rattle.runs.specs.Demand.{IsCounted}
 use Rattle.runs.proofs.AsRun.{remembered-none, remembered-one}
 
@@ -78,7 +78,7 @@ pub record Ledger (w : World) (h : List Accepted) : Type 0 where
   pub busyAreas : count isUsed (w .state .areas) ≡ areasTaken h
   -- a used area remembers what the rule makes of the packets since it was taken
   pub remembers : (i : ℕ) → i < length (w .state .areas) → isUsed (areaAt (w .state) i) ≡ true
-      → stateOf (areaAt (w .state) i .marks) (w .store) (baseOf i) ≡ remembered (packets (areaAt (w .state) i .pid .0) h)
+      → stateOf (areaAt (w .state) i .marks) (w .store) (areaStart i) ≡ remembered (packets (areaAt (w .state) i .pid .0) h)
   -- every answer counts the sections in the output
   pub counts : Every IsCounted h
   -- a filter was handed what the rule completes
@@ -172,10 +172,10 @@ module _ (w : World) (h : List Accepted) (l : Ledger w h) where
       not-taken (f .pid) g (busy (filterAt s (f .place) .area) (f .pid) (st .area) (st .used) (st .pid))
 
   -- the area with a PID
-  pub held-area : (pid : ℕ) → isHeld pid (w .state .areas) ≡ hasArea pid h
+  pub held-area : (pid : ℕ) → hasArea pid (w .state .areas) ≡ moreOpens pid h
   held-area pid = go (decLt (areaOf pid (s .areas)) (length (s .areas)))
     where
-      go : Dec (areaOf pid (s .areas) < length (s .areas)) → isHeld pid (s .areas) ≡ hasArea pid h
+      go : Dec (areaOf pid (s .areas) < length (s .areas)) → hasArea pid (s .areas) ≡ moreOpens pid h
       go (yes b) =
           let even = l .balance pid in
           let p = found-area pid (s .areas) b in

@@ -10,27 +10,27 @@ use borrow.Author.Tests.{eqb-false, eq-eqb, ne-eqb, lt-ltb, le-ltb}
 use lib.Dec.{eqb, ltb}
 use lib.ListN.{length, getD, set, length-set, List·getD-map}
 use lib.Seq.{getD-set-same, getD-set-other}
-use Rattle.rules.specs.Walk.{total, count}
-use Rattle.rules.proofs.Walk.{total-set, passes-inside}
-use Rattle.rules.specs.Perhaps.{Perhaps, there, absent}
+use Rattle.ground.specs.Walk.{total, count}
+use Rattle.ground.proofs.Walk.{total-set, passes-inside}
+use Rattle.ground.specs.Perhaps.{Perhaps, there, absent}
 use Rattle.gather.specs.Memory.{stateOf}
-use Rattle.driver.specs.State.{isUsed, isOpen, baseOf, placeOf, freeArea, freeFilter}
-use Rattle.driver.specs.Close.{left, withoutFilter}
-use Rattle.driver.specs.declared.Area.{Area}
-use Rattle.driver.specs.declared.Filter.{Filter}
-use Rattle.driver.specs.declared.State.{State}
+use Rattle.driver.specs.State.{isUsed, isOpen, areaStart, placeOf, freeArea, freeFilter}
+use Rattle.driver.specs.Close.{withoutUser, withoutFilter}
+use Rattle.driver.specs.declared.state.Area.{Area}
+use Rattle.driver.specs.declared.state.Filter.{Filter}
+use Rattle.driver.specs.declared.state.State.{State}
 use Rattle.driver.proofs.Clauses.{open-stands, used-inside, used-some}
 use Rattle.driver.proofs.Found.{found-place}
-use Rattle.driver.proofs.Ways.{Closes}
-use Rattle.rules.proofs.Test.{neither}
-use Rattle.driver.proofs.Keeps.{closes-clauses}
+use Rattle.driver.proofs.Cases.{Closes}
+use Rattle.ground.proofs.Test.{neither}
+use Rattle.driver.proofs.StaysSound.{closes-clauses}
 use Rattle.runs.specs.Run.{World}
-use Rattle.runs.specs.History.{Opening, Accepted, closed, opens, closes, isOn, isLast, openingOf, isClosed, hasArea, unless, standing, areasTaken, packets, remembered}
+use Rattle.runs.specs.History.{Opening, Accepted, closed, opens, closes, isOn, isLast, openingOf, isClosed, moreOpens, unless, standing, areasTaken, packets, remembered}
 use Rattle.runs.proofs.Ledger.{usersOf, areaAt, filterAt, openingAt, seatAt, same-there, IsOpen, Handed, Ledger, open-handed, handed-open, after-close, stood, users}
 
 -- the area has one user less
-left-users : (q : ℕ) (a : Area) → isUsed a ≡ true → usersOf q (left a) + cond (eqb (a .pid .0) q) 1 0 ≡ usersOf q a
-left-users q a u = go (ℕ-discrete (a .users) 1) (used-some a u)
+without-user-users : (q : ℕ) (a : Area) → isUsed a ≡ true → usersOf q (withoutUser a) + cond (eqb (a .pid .0) q) 1 0 ≡ usersOf q a
+without-user-users q a u = go (ℕ-discrete (a .users) 1) (used-some a u)
   where
     last : (b : Bool) → a .users ≡ 1 → 0 + cond b 1 0 ≡ cond b (a .users) 0
     last true e = omega arith
@@ -40,15 +40,15 @@ left-users q a u = go (ℕ-discrete (a .users) 1) (used-some a u)
     more true e = omega arith
     more false e = refl
 
-    go : Dec (a .users ≡ 1) → 0 < a .users → usersOf q (left a) + cond (eqb (a .pid .0) q) 1 0 ≡ usersOf q a
+    go : Dec (a .users ≡ 1) → 0 < a .users → usersOf q (withoutUser a) + cond (eqb (a .pid .0) q) 1 0 ≡ usersOf q a
     go (yes e) some = rw (eq-eqb (a .users) 1 e, u) (last (eqb (a .pid .0) q) e)
     go (no n) some = rw (ne-eqb (a .users) 1 n, ne-eqb (a .users - 1) 0 (omega arith), u) (more (eqb (a .pid .0) q) some)
 
 -- where it is used still, it is the same but for its users
-left-keeps : (a : Area) → isUsed (left a) ≡ true → left a ≡ record { pid = a .pid; users = a .users - 1; marks = a .marks }
-left-keeps a u = go (ℕ-discrete (a .users) 1)
+without-user-keeps : (a : Area) → isUsed (withoutUser a) ≡ true → withoutUser a ≡ record { pid = a .pid; users = a .users - 1; marks = a .marks }
+without-user-keeps a u = go (ℕ-discrete (a .users) 1)
   where
-    go : Dec (a .users ≡ 1) → left a ≡ record { pid = a .pid; users = a .users - 1; marks = a .marks }
+    go : Dec (a .users ≡ 1) → withoutUser a ≡ record { pid = a .pid; users = a .users - 1; marks = a .marks }
     go (yes e) = absurd (false≢true (rw (eq-eqb (a .users) 1 e) at u))
     go (no n) = rw (ne-eqb (a .users) 1 n)
 
@@ -63,7 +63,7 @@ module _ (w : World) (h : List Accepted) (l : Ledger w h) (number : ℕ) (c : Cl
   a = filterAt s p .area
 
   abbrev area : Area
-  area = left (areaAt s a)
+  area = withoutUser (areaAt s a)
 
   abbrev after : World
   after = record { state = withoutFilter s p; store = w .store }
@@ -84,7 +84,7 @@ module _ (w : World) (h : List Accepted) (l : Ledger w h) (number : ℕ) (c : Cl
   balance : (q : ℕ) → total (usersOf q) (set (s .areas) a area) + (cond (isOn q (openingOf number h)) 1 0 + closes q h) ≡ opens q h
   balance q =
       let e = total-set (usersOf q) (s .areas) a area freeArea inside in
-      let less = left-users q (areaAt s a) used in
+      let less = without-user-users q (areaAt s a) used in
       let b = l .balance q in
       let on : _≡_ {A = ℕ} (cond (isOn q (openingOf number h)) 1 0) (cond (eqb (areaAt s a .pid .0) q) 1 0) = ap (λ x. cond (isOn q x) 1 0) came in
       omega arith
@@ -118,7 +118,7 @@ module _ (w : World) (h : List Accepted) (l : Ledger w h) (number : ℕ) (c : Cl
       go (yes e) =
           let at = getD-set-same (s .areas) a area freeArea inside in
           let u′ : isUsed area ≡ true = ap isUsed (sym at) ∙ ap (λ (j : ℕ). isUsed (getD (set (s .areas) a area) j freeArea)) (sym e) ∙ u in
-          let same = at ∙ left-keeps (areaAt s a) u′ in
+          let same = at ∙ without-user-keeps (areaAt s a) u′ in
           rw e (ap (λ (x : Area). x .pid) same, ap (λ (x : Area). x .marks) same, used)
       go (no n) =
           let same = getD-set-other (s .areas) a i area freeArea n in
@@ -187,7 +187,7 @@ module _ (w : World) (h : List Accepted) (l : Ledger w h) (number : ℕ) (c : Cl
       was = ap (λ (b : Bool). cond b 1 0) used
 
       -- one more close of its PID
-      left-over : hasArea (areaAt s a .pid .0) (closed number ∷ h) ≡ ltb (1 + closes (areaAt s a .pid .0) h) (opens (areaAt s a .pid .0) h)
+      left-over : moreOpens (areaAt s a .pid .0) (closed number ∷ h) ≡ ltb (1 + closes (areaAt s a .pid .0) h) (opens (areaAt s a .pid .0) h)
       left-over =
           ap (λ (x : Perhaps Opening). ltb (cond (isOn (areaAt s a .pid .0) x) 1 0 + closes (areaAt s a .pid .0) h) (opens (areaAt s a .pid .0) h)) came
           ∙ ap (λ (b : Bool). ltb (cond b 1 0 + closes (areaAt s a .pid .0) h) (opens (areaAt s a .pid .0) h)) (eq-eqb (areaAt s a .pid .0) (areaAt s a .pid .0) refl)
@@ -195,20 +195,20 @@ module _ (w : World) (h : List Accepted) (l : Ledger w h) (number : ℕ) (c : Cl
       go : Dec (areaAt s a .users ≡ 1) → count isUsed (set (s .areas) a area) ≡ areasTaken h - cond (isLast (there (openingAt s p)) (closed number ∷ h)) 1 0
       go (yes e) =
           let even = users w h l a inside used in
-          let none : hasArea (areaAt s a .pid .0) (closed number ∷ h) ≡ false = left-over ∙ le-ltb (1 + closes (areaAt s a .pid .0) h) (opens (areaAt s a .pid .0) h) (omega arith) in
+          let none : moreOpens (areaAt s a .pid .0) (closed number ∷ h) ≡ false = left-over ∙ le-ltb (1 + closes (areaAt s a .pid .0) h) (opens (areaAt s a .pid .0) h) (omega arith) in
           let free : _≡_ {A = ℕ} (cond (isUsed area) 1 0) 0 = rw (eq-eqb (areaAt s a .users) 1 e) in
           let same = l .busyAreas in
           rw none (omega (arith, sum, was))
       go (no n) =
           let even = users w h l a inside used in
           let some = used-some (areaAt s a) used in
-          let more : hasArea (areaAt s a .pid .0) (closed number ∷ h) ≡ true = left-over ∙ lt-ltb (1 + closes (areaAt s a .pid .0) h) (opens (areaAt s a .pid .0) h) (omega arith) in
+          let more : moreOpens (areaAt s a .pid .0) (closed number ∷ h) ≡ true = left-over ∙ lt-ltb (1 + closes (areaAt s a .pid .0) h) (opens (areaAt s a .pid .0) h) (omega arith) in
           let kept : _≡_ {A = ℕ} (cond (isUsed area) 1 0) 1 = rw (ne-eqb (areaAt s a .users) 1 n, ne-eqb (areaAt s a .users - 1) 0 (omega arith)) in
           let same = l .busyAreas in
           rw more (omega (arith, sum, was))
 
   remembers : (i : ℕ) → i < length (set (s .areas) a area) → isUsed (getD (set (s .areas) a area) i freeArea) ≡ true
-      → stateOf (getD (set (s .areas) a area) i freeArea .marks) (w .store) (baseOf i) ≡ remembered (packets (getD (set (s .areas) a area) i freeArea .pid .0) h)
+      → stateOf (getD (set (s .areas) a area) i freeArea .marks) (w .store) (areaStart i) ≡ remembered (packets (getD (set (s .areas) a area) i freeArea .pid .0) h)
   remembers i b u =
       let same = same-area i u in
       rw (same .0, same .1) (l .remembers i (rw length-set at b) (same .2))

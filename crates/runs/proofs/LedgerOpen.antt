@@ -10,25 +10,25 @@ use borrow.Author.Tests.{eqb-true, eq-eqb, ne-eqb, lt-ltb, le-ltb, not-true, not
 use lib.Dec.{eqb}
 use lib.ListN.{length, getD, set, length-set}
 use lib.Seq.{getD-set-same, getD-set-other}
-use Rattle.rules.specs.Walk.{total, count}
-use Rattle.rules.proofs.Test.{both-true}
-use Rattle.rules.proofs.Walk.{total-set, total-none, find-passes, passes-inside, all-at}
-use Rattle.rules.specs.Perhaps.{there, absent}
+use Rattle.ground.specs.Walk.{total, count}
+use Rattle.ground.proofs.Test.{both-true}
+use Rattle.ground.proofs.Walk.{total-set, total-none, find-passes, passes-inside, all-at}
+use Rattle.ground.specs.Perhaps.{there, absent}
 use Rattle.gather.specs.Rule.{blank}
 use Rattle.gather.specs.Memory.{stateOf}
-use Rattle.driver.specs.State.{isUsed, isOpen, isFree, baseOf, freePlaceOf, freeArea, freeFilter}
+use Rattle.driver.specs.State.{isUsed, isOpen, isFree, areaStart, freePlaceOf, freeArea, freeFilter}
 use Rattle.driver.specs.Sound.{soundArea, isZeroArea}
-use Rattle.driver.specs.Open.{areaFor, joined, opened as openedState}
-use Rattle.driver.specs.declared.Area.{Area}
-use Rattle.driver.specs.declared.Filter.{Filter}
-use Rattle.driver.specs.declared.State.{State}
+use Rattle.driver.specs.Open.{areaFor, withUser, opened as openedState}
+use Rattle.driver.specs.declared.state.Area.{Area}
+use Rattle.driver.specs.declared.state.Filter.{Filter}
+use Rattle.driver.specs.declared.state.State.{State}
 use Rattle.driver.proofs.Clauses.{open-stands}
-use Rattle.driver.proofs.KeepsOpen.{ForPid, own, new, for-pid, others}
+use Rattle.driver.proofs.OpenStaysSound.{ForPid, own, new, for-pid, others}
 use Rattle.driver.proofs.Found.{found-area}
-use Rattle.driver.proofs.Ways.{Opens}
-use Rattle.driver.proofs.Keeps.{opens-clauses}
+use Rattle.driver.proofs.Cases.{Opens}
+use Rattle.driver.proofs.StaysSound.{opens-clauses}
 use Rattle.runs.specs.Run.{World}
-use Rattle.runs.specs.History.{Opening, Accepted, opened, opens, closes, openingOf, isClosed, hasArea, standing, areasTaken, packets, since, remembered, completed}
+use Rattle.runs.specs.History.{Opening, Accepted, opened, opens, closes, openingOf, isClosed, moreOpens, standing, areasTaken, packets, since, remembered, completed}
 use Rattle.runs.proofs.AsRun.{remembered-none, completed-none}
 use Rattle.runs.proofs.Ledger.{usersOf, areaAt, filterAt, openingAt, seatAt, IsOpen, Handed, Ledger, open-handed, handed-open, after-open, stood, busy, not-taken, still-taken, standing-long}
 
@@ -40,10 +40,10 @@ owned pid areas (new b) h u =
     absurd (false≢true (sym (ap not (find-passes (λ a. eqb (a .users) 0) areas freeArea h)) ∙ u))
 
 -- it has one user more
-joined-users : (pid q : ℕ) (a : Area) → (isUsed a ≡ true → a .pid .0 ≡ pid) → usersOf q (joined pid a) ≡ usersOf q a + cond (eqb pid q) 1 0
-joined-users pid q a owns = go (isUsed a) refl
+with-user-users : (pid q : ℕ) (a : Area) → (isUsed a ≡ true → a .pid .0 ≡ pid) → usersOf q (withUser pid a) ≡ usersOf q a + cond (eqb pid q) 1 0
+with-user-users pid q a owns = go (isUsed a) refl
   where
-    used : isUsed (joined pid a) ≡ true
+    used : isUsed (withUser pid a) ≡ true
     used = ap not (ne-eqb (a .users + 1) 0 (omega arith))
 
     both : (b : Bool) → cond b (a .users + 1) 0 ≡ cond b (a .users) 0 + cond b 1 0
@@ -54,7 +54,7 @@ joined-users pid q a owns = go (isUsed a) refl
     one true z = omega arith
     one false z = refl
 
-    go : (u : Bool) → isUsed a ≡ u → usersOf q (joined pid a) ≡ usersOf q a + cond (eqb pid q) 1 0
+    go : (u : Bool) → isUsed a ≡ u → usersOf q (withUser pid a) ≡ usersOf q a + cond (eqb pid q) 1 0
     go true u = rw (used, u, owns u) (both (eqb pid q))
     go false u = rw (used, u) (one (eqb pid q) (eqb-true (a .users) 0 (not-false (eqb (a .users) 0) u)))
 
@@ -82,7 +82,7 @@ module _ (w : World) (h : List Accepted) (l : Ledger w h) (pid : ℕ) (o : Opens
   fresh = record { number = s .next; pid = pid; place = p }
 
   abbrev area : Area
-  area = joined pid (areaAt s a)
+  area = withUser pid (areaAt s a)
 
   abbrev filter : Filter
   filter = record { number = s .next; area = a }
@@ -99,7 +99,7 @@ module _ (w : World) (h : List Accepted) (l : Ledger w h) (pid : ℕ) (o : Opens
   balance : (q : ℕ) → total (usersOf q) (set (s .areas) a area) + closes q h ≡ cond (eqb pid q) 1 0 + opens q h
   balance q =
       let e = total-set (usersOf q) (s .areas) a area freeArea (o .area) in
-      let j = joined-users pid q (areaAt s a) owns in
+      let j = with-user-users pid q (areaAt s a) owns in
       let b = l .balance q in
       omega arith
 
@@ -227,7 +227,7 @@ module _ (w : World) (h : List Accepted) (l : Ledger w h) (pid : ℕ) (o : Opens
           ∙ ap (λ (g : Filter). cond (isOpen g) (there (openingAt (openedState s pid) j)) absent) (sym (old-filter j n))
 
   -- an area more is used exactly where the PID had none
-  busy-areas : count isUsed (set (s .areas) a area) ≡ areasTaken h + cond (hasArea pid h) 0 1
+  busy-areas : count isUsed (set (s .areas) a area) ≡ areasTaken h + cond (moreOpens pid h) 0 1
   busy-areas = go (isUsed (areaAt s a)) refl
     where
       sum : count isUsed (set (s .areas) a area) + cond (isUsed (areaAt s a)) 1 0 ≡ count isUsed (s .areas) + cond (isUsed area) 1 0
@@ -236,35 +236,35 @@ module _ (w : World) (h : List Accepted) (l : Ledger w h) (pid : ℕ) (o : Opens
       one : _≡_ {A = ℕ} (cond (isUsed area) 1 0) 1
       one = ap (λ (b : Bool). cond b 1 0) (ap not (ne-eqb (areaAt s a .users + 1) 0 (omega arith)))
 
-      go : (u : Bool) → isUsed (areaAt s a) ≡ u → count isUsed (set (s .areas) a area) ≡ areasTaken h + cond (hasArea pid h) 0 1
+      go : (u : Bool) → isUsed (areaAt s a) ≡ u → count isUsed (set (s .areas) a area) ≡ areasTaken h + cond (moreOpens pid h) 0 1
       go true u =
           let some = busy w h l a pid (o .area) u (owns u) in
           let even = l .balance pid in
           let was : _≡_ {A = ℕ} (cond (isUsed (areaAt s a)) 1 0) 1 = ap (λ (b : Bool). cond b 1 0) u in
-          let has : _≡_ {A = ℕ} (cond (hasArea pid h) 0 1) 0 = ap (λ (b : Bool). cond b 0 1) (lt-ltb (closes pid h) (opens pid h) (omega arith)) in
+          let has : _≡_ {A = ℕ} (cond (moreOpens pid h) 0 1) 0 = ap (λ (b : Bool). cond b 0 1) (lt-ltb (closes pid h) (opens pid h) (omega arith)) in
           let same = l .busyAreas in
           omega (arith, sum, one)
       go false u =
           let even = none u in
           let was : _≡_ {A = ℕ} (cond (isUsed (areaAt s a)) 1 0) 0 = ap (λ (b : Bool). cond b 1 0) u in
-          let has : _≡_ {A = ℕ} (cond (hasArea pid h) 0 1) 1 = ap (λ (b : Bool). cond b 0 1) (le-ltb (closes pid h) (opens pid h) (omega arith)) in
+          let has : _≡_ {A = ℕ} (cond (moreOpens pid h) 0 1) 1 = ap (λ (b : Bool). cond b 0 1) (le-ltb (closes pid h) (opens pid h) (omega arith)) in
           let same = l .busyAreas in
           omega (arith, sum, one)
 
   remembers : (i : ℕ) → i < length (set (s .areas) a area) → isUsed (getD (set (s .areas) a area) i freeArea) ≡ true
-      → stateOf (getD (set (s .areas) a area) i freeArea .marks) (w .store) (baseOf i) ≡ remembered (packets (getD (set (s .areas) a area) i freeArea .pid .0) (opened fresh ∷ h))
+      → stateOf (getD (set (s .areas) a area) i freeArea .marks) (w .store) (areaStart i) ≡ remembered (packets (getD (set (s .areas) a area) i freeArea .pid .0) (opened fresh ∷ h))
   remembers i b u = go (ℕ-discrete i a)
     where
-      here : (v : Bool) → isUsed (areaAt s a) ≡ v → stateOf (areaAt s a .marks) (w .store) (baseOf a) ≡ remembered (packets pid (opened fresh ∷ h))
+      here : (v : Bool) → isUsed (areaAt s a) ≡ v → stateOf (areaAt s a .marks) (w .store) (areaStart a) ≡ remembered (packets pid (opened fresh ∷ h))
       here true v =
           l .remembers a (o .area) v
           ∙ ap remembered (ap (λ (q : ℕ). packets q h) (owns v) ∙ sym (not-taken w h l pid fresh (busy w h l a pid (o .area) v (owns v))))
       here false v =
-          free-blank (areaAt s a) (w .store) (baseOf a) (all-at soundArea (s .areas) freeArea (l .clauses .areas) a (o .area)) v
+          free-blank (areaAt s a) (w .store) (areaStart a) (all-at soundArea (s .areas) freeArea (l .clauses .areas) a (o .area)) v
           ∙ sym remembered-none
           ∙ sym (ap remembered (ap₂ (λ (c d : Bool). cond (c && d) [] (packets pid h)) (eq-eqb pid pid refl) (eq-eqb (opens pid h) (closes pid h) (none v))))
 
-      go : Dec (i ≡ a) → stateOf (getD (set (s .areas) a area) i freeArea .marks) (w .store) (baseOf i) ≡ remembered (packets (getD (set (s .areas) a area) i freeArea .pid .0) (opened fresh ∷ h))
+      go : Dec (i ≡ a) → stateOf (getD (set (s .areas) a area) i freeArea .marks) (w .store) (areaStart i) ≡ remembered (packets (getD (set (s .areas) a area) i freeArea .pid .0) (opened fresh ∷ h))
       go (yes e) = rw (e, getD-set-same (s .areas) a area freeArea (o .area)) (here (isUsed (areaAt s a)) refl)
       go (no n) =
           let same = getD-set-other (s .areas) a i area freeArea n in

@@ -10,31 +10,31 @@ use native.Mathlib.Omega.{arith}
 use borrow.Author.Tests.{eq-eqb, ne-eqb}
 use lib.ListN.{length, getD, set, length-set}
 use lib.Seq.{getD-set-same, getD-set-other}
-use Rattle.rules.specs.Perhaps.{there, absent}
-use Rattle.rules.specs.Set.{isIn}
-use Rattle.rules.specs.Walk.{total, count}
-use Rattle.rules.proofs.Set.{in-set}
-use Rattle.rules.specs.Write.{put}
-use Rattle.rules.proofs.Test.{true-both}
-use Rattle.rules.proofs.Walk.{total-set, all-at}
-use Rattle.rules.proofs.Write.{length-put}
+use Rattle.ground.specs.Perhaps.{there, absent}
+use Rattle.ground.specs.Set.{isIn}
+use Rattle.ground.specs.Walk.{total, count}
+use Rattle.ground.proofs.Set.{in-set}
+use Rattle.ground.specs.Write.{put}
+use Rattle.ground.proofs.Test.{true-both}
+use Rattle.ground.proofs.Walk.{total-set, all-at}
+use Rattle.ground.proofs.Write.{length-put}
 use Rattle.gather.specs.Rule.{Outcome, rule}
 use Rattle.gather.specs.Kind.{join}
 use Rattle.gather.specs.Memory.{stateOf, stretch, lastOf}
-use Rattle.gather.proofs.Laws.{rule-keeps}
-use Rattle.gather.proofs.Accepting.{sound-says}
+use Rattle.gather.proofs.RuleKeeps.{rule-keeps}
+use Rattle.gather.proofs.RuleOnMemory.{sound-says}
 use Rattle.gather.proofs.Stored.{state-again, output-cut}
-use Rattle.driver.specs.State.{isUsed, isOpen, standsOn, areaOf, baseOf, freeArea, freeFilter}
+use Rattle.driver.specs.State.{isUsed, isOpen, standsOn, areaOf, areaStart, freeArea, freeFilter}
 use Rattle.driver.specs.Sound.{soundArea}
-use Rattle.driver.specs.Packet.{Said, pidOf, packetFrom, placesOn, outcome, marked, report, putBack}
-use Rattle.driver.specs.declared.Area.{Area}
-use Rattle.driver.specs.declared.State.{State}
-use Rattle.driver.proofs.KeepsOpen.{only-one}
+use Rattle.driver.specs.Packet.{Said, pidOf, packetFrom, placesOn, outcome, withMarks, report, putBack}
+use Rattle.driver.specs.declared.state.Area.{Area}
+use Rattle.driver.specs.declared.state.State.{State}
+use Rattle.driver.proofs.OpenStaysSound.{only-one}
 use Rattle.driver.proofs.Clauses.{marks-sound}
-use Rattle.rules.proofs.Frame.{unseen, part-apart}
-use Rattle.driver.proofs.Ways.{Handles}
+use Rattle.ground.proofs.Frame.{unseen, part-apart}
+use Rattle.driver.proofs.Cases.{Handles}
 use Rattle.driver.proofs.Found.{has-pid, found-area}
-use Rattle.driver.proofs.Keeps.{held-fits, held-inside, handles-clauses}
+use Rattle.driver.proofs.StaysSound.{held-fits, held-inside, handles-clauses}
 use Rattle.runs.specs.Run.{World}
 use Rattle.runs.specs.History.{Opening, Accepted, packet, opens, closes, openingOf, isClosed, standing, areasTaken, packets, since, sectionsOf, handed, remembered, completed}
 use Rattle.runs.proofs.AsRun.{remembered-one, completed-one}
@@ -51,7 +51,7 @@ module _ (w : World) (h : List Accepted) (l : Ledger w h) (p out : List ℕ) (k 
   result = outcome s own p (w .store)
 
   abbrev area : Area
-  area = marked (areaAt s own) result
+  area = withMarks (areaAt s own) result
 
   abbrev said : Said
   said = report result (placesOn own (s .filters))
@@ -60,7 +60,7 @@ module _ (w : World) (h : List Accepted) (l : Ledger w h) (p out : List ℕ) (k 
   written = put out 0 (join (result .sections))
 
   abbrev after : World
-  after = record { state = putBack s own result (w .store) out .state; store = put (w .store) (baseOf own) (result .next .held) }
+  after = record { state = putBack s own result (w .store) out .state; store = put (w .store) (areaStart own) (result .next .held) }
 
   mine : (isUsed (areaAt s own) ≡ true) × (areaAt s own .pid .0 ≡ pidOf p)
   mine = found-area (pidOf p) (s .areas) (k .area)
@@ -68,11 +68,11 @@ module _ (w : World) (h : List Accepted) (l : Ledger w h) (p out : List ℕ) (k 
   fits : length (result .next .held) ≤ 4095
   fits = held-fits s p (w .store) out (l .eight) k
 
-  inside : baseOf own + length (result .next .held) ≤ length (w .store)
+  inside : areaStart own + length (result .next .held) ≤ length (w .store)
   inside = held-inside s p (w .store) out (l .eight) k
 
   -- what the rule went on from
-  from : stateOf (areaAt s own .marks) (w .store) (baseOf own) ≡ remembered (packets (pidOf p) h)
+  from : stateOf (areaAt s own .marks) (w .store) (areaStart own) ≡ remembered (packets (pidOf p) h)
   from = l .remembers own (k .area) (mine .0) ∙ ap (λ (q : ℕ). remembered (packets q h)) (mine .1)
 
   outcome-is : result ≡ rule (remembered (packets (pidOf p) h)) (packetFrom p)
@@ -108,21 +108,21 @@ module _ (w : World) (h : List Accepted) (l : Ledger w h) (p out : List ℕ) (k 
       (has-pid (pidOf p) (areaAt s i) u (sym e)) (has-pid (pidOf p) (areaAt s own) (mine .0) (mine .1))
 
   -- the held bytes of another area are as before
-  elsewhere : (i n : ℕ) → n ≤ 4095 → (i ≡ own → ⊥) → stretch n (after .store) (baseOf i) ≡ stretch n (w .store) (baseOf i)
-  elsewhere i n few other = part-apart (w .store) (baseOf own) (result .next .held) inside 0 (baseOf i) n (go (decLt i own))
+  elsewhere : (i n : ℕ) → n ≤ 4095 → (i ≡ own → ⊥) → stretch n (after .store) (areaStart i) ≡ stretch n (w .store) (areaStart i)
+  elsewhere i n few other = part-apart (w .store) (areaStart own) (result .next .held) inside 0 (areaStart i) n (go (decLt i own))
     where
-      go : Dec (i < own) → (baseOf i + n ≤ baseOf own) ⊎ (baseOf own + length (result .next .held) ≤ baseOf i)
+      go : Dec (i < own) → (areaStart i + n ≤ areaStart own) ⊎ (areaStart own + length (result .next .held) ≤ areaStart i)
       go (yes b) = inl (omega arith)
       go (no m) = let f = fits in inr (omega arith)
 
   remembers : (i : ℕ) → i < length (set (s .areas) own area) → isUsed (getD (set (s .areas) own area) i freeArea) ≡ true
-      → stateOf (getD (set (s .areas) own area) i freeArea .marks) (after .store) (baseOf i) ≡ remembered (packets (getD (set (s .areas) own area) i freeArea .pid .0) (packet p out said written ∷ h))
+      → stateOf (getD (set (s .areas) own area) i freeArea .marks) (after .store) (areaStart i) ≡ remembered (packets (getD (set (s .areas) own area) i freeArea .pid .0) (packet p out said written ∷ h))
   remembers i b u = go (ℕ-discrete i own)
     where
-      go : Dec (i ≡ own) → stateOf (getD (set (s .areas) own area) i freeArea .marks) (after .store) (baseOf i) ≡ remembered (packets (getD (set (s .areas) own area) i freeArea .pid .0) (packet p out said written ∷ h))
+      go : Dec (i ≡ own) → stateOf (getD (set (s .areas) own area) i freeArea .marks) (after .store) (areaStart i) ≡ remembered (packets (getD (set (s .areas) own area) i freeArea .pid .0) (packet p out said written ∷ h))
       go (yes e) =
           rw (e, getD-set-same (s .areas) own area freeArea (k .area), mine .1, eq-eqb (pidOf p) (pidOf p) refl)
-          (state-again (result .next) (w .store) (baseOf own) inside ∙ ap (λ (x : Outcome). x .next) outcome-is ∙ sym (remembered-one (packetFrom p) (packets (pidOf p) h)))
+          (state-again (result .next) (w .store) (areaStart own) inside ∙ ap (λ (x : Outcome). x .next) outcome-is ∙ sym (remembered-one (packetFrom p) (packets (pidOf p) h)))
       go (no n) =
           let same = getD-set-other (s .areas) own i area freeArea n in
           let was : isUsed (areaAt s i) ≡ true = ap isUsed (sym same) ∙ u in
@@ -135,7 +135,7 @@ module _ (w : World) (h : List Accepted) (l : Ledger w h) (p out : List ℕ) (k 
   -- the sections in the output are those that the rule completes
   sections : sectionsOf said written ≡ result .sections
   sections =
-      let keeps = rule-keeps (stateOf (areaAt s own .marks) (w .store) (baseOf own)) (packetFrom p) (k .agrees) in
+      let keeps = rule-keeps (stateOf (areaAt s own .marks) (w .store) (areaStart own)) (packetFrom p) (k .agrees) in
       let room = k .room in
       let most = keeps .bytes (k .short) in
       output-cut (result .sections) out (keeps .whole) (omega arith)
@@ -169,7 +169,7 @@ module _ (w : World) (h : List Accepted) (l : Ledger w h) (p out : List ℕ) (k 
   pub packet-ledger : Ledger after (packet p out said written ∷ h)
   packet-ledger =
       record {
-        whole = length-put (w .store) (baseOf own) (result .next .held) inside ∙ l .whole;
+        whole = length-put (w .store) (areaStart own) (result .next .held) inside ∙ l .whole;
         eight = length-set (s .areas) own area ∙ l .eight;
         places = l .places;
         clauses = handles-clauses s p (w .store) out (l .eight) k;

@@ -7,13 +7,13 @@ use Prim.Native.Nat.{ℕ, suc, _+_, _-_}
 use borrow.Author.Tests.{eqb-true}
 use lib.Dec.{eqb, ltb}
 use lib.ListN.{length, set}
-use Rattle.rules.specs.Answer.{refused, given}
-use Rattle.rules.specs.Perhaps.{Perhaps, there, absent}
-use Rattle.rules.specs.Walk.{keep}
+use Rattle.ground.specs.Answer.{refused, given}
+use Rattle.ground.specs.Perhaps.{Perhaps, there, absent}
+use Rattle.ground.specs.Walk.{keep}
 use Rattle.gather.specs.Rule.{Packet}
 use Rattle.driver.specs.Packet.{pidOf, packetFrom}
 use Rattle.runs.specs.Run.{Call, openCall, closeCall, packetCall, World, Event, openEvent, closeEvent, packetEvent, event, ours}
-use Rattle.runs.specs.History.{Opening, Accepted, opened, closed, packet, accepted, numbersGiven, opens, closes, openingOf, isOn, isClosed, isLast, hasArea, unless, standing, areasTaken, packets, since, upToClose}
+use Rattle.runs.specs.History.{Opening, Accepted, opened, closed, packet, accepted, numbersGiven, opens, closes, openingOf, isOn, isClosed, isLast, moreOpens, unless, standing, areasTaken, packets, since, upToClose}
 use Rattle.runs.specs.Answers.{answerTo}
 use Rattle.runs.specs.Demand.{worldAfter, logOf, history, concerns, questionOf}
 use Rattle.runs.proofs.Ledger.{all-before}
@@ -64,7 +64,7 @@ module _ (pid : ℕ) where
   thin-closed n (closed number ∷ h) = ap (λ (b : Bool). eqb number n || b) (thin-closed n h)
   thin-closed n (packet p lent r out ∷ h) = let e = thin-closed n h in either (isClosed n) (eqb (pidOf p) pid) (packet p lent r out) h (isClosed n h) e e
 
-  thin-area : (q : ℕ) (h : List Accepted) → hasArea q (thin pid h) ≡ hasArea q h
+  thin-area : (q : ℕ) (h : List Accepted) → moreOpens q (thin pid h) ≡ moreOpens q h
   thin-area q h = ap₂ ltb (thin-closes q h) (thin-opens q h)
 
   thin-standing : (h : List Accepted) → standing (thin pid h) ≡ standing h

@@ -8,18 +8,18 @@ use native.Mathlib.Omega.{arith}
 use borrow.Author.Tests.{ne-eqb}
 use lib.Dec.{eqb}
 use lib.ListN.{length, getD, replicate, getD-replicate}
-use Rattle.rules.specs.Answer.{given}
-use Rattle.rules.specs.Walk.{Every}
-use Rattle.rules.specs.Perhaps.{there, absent}
+use Rattle.ground.specs.Answer.{given}
+use Rattle.ground.specs.Walk.{Every}
+use Rattle.ground.specs.Perhaps.{there, absent}
 use Rattle.gather.specs.Memory.{contradictsOf}
 use Rattle.gather.specs.Kind.{contradicting}
-use Rattle.driver.specs.State.{fresh, isUsed, isOpen, areaOf, baseOf, freeArea, freeFilter}
+use Rattle.driver.specs.State.{fresh, isUsed, isOpen, areaOf, areaStart, freeArea, freeFilter}
 use Rattle.driver.specs.Sound.{sound}
 use Rattle.driver.specs.Packet.{pidOf}
 use Rattle.driver.proofs.Clauses.{sound-tells, sound-says}
 use Rattle.driver.proofs.Found.{found-area}
-use Rattle.driver.proofs.Keeps.{fresh-sound}
-use Rattle.driver.proofs.Ways.{open-ind, close-ind, packet-ind}
+use Rattle.driver.proofs.StaysSound.{fresh-sound}
+use Rattle.driver.proofs.Cases.{open-ind, close-ind, packet-ind}
 use Rattle.runs.specs.Run.{Call, openCall, closeCall, packetCall, World, openEvent, closeEvent, packetEvent, after, event, start, ours}
 use Rattle.runs.specs.History.{Opening, Accepted, acceptedBy, isRefused, packets}
 use Rattle.runs.specs.Demand.{worldAfter, logOf, history}
@@ -75,7 +75,7 @@ module _ (w : World) (h : List Accepted) (l : Ledger w h) where
 
   -- the area of a PID never contradicts the state
   pub agrees : (pid : ℕ) → areaOf pid (w .state .areas) < length (w .state .areas)
-      → contradictsOf (areaAt (w .state) (areaOf pid (w .state .areas)) .marks .held) (w .store) (baseOf (areaOf pid (w .state .areas))) ≡ false
+      → contradictsOf (areaAt (w .state) (areaOf pid (w .state .areas)) .marks .held) (w .store) (areaStart (areaOf pid (w .state .areas))) ≡ false
   agrees pid b =
       let a = areaAt (w .state) (areaOf pid (w .state .areas)) in
       let used = found-area pid (w .state .areas) b .0 in

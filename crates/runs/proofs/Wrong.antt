@@ -7,7 +7,7 @@ use Prim.Native.Nat.{ℕ}
 use native.Mathlib.Omega.{arith}
 use lib.Dec.{lit<}
 use lib.ListN.{getD, replicate, length-replicate}
-use Rattle.rules.specs.Write.{put}
+use Rattle.ground.specs.Write.{put}
 use Rattle.gather.specs.Rule.{rule, walk, add, started}
 use Rattle.gather.specs.Kind.{classify, kindOf}
 use Rattle.driver.specs.Open.{openOf}

@@ -4,18 +4,20 @@ use mathlib.Core.List.{List, [], _∷_, _++_}
 use Prim.Native.Nat.{ℕ, _+_}
 use lib.Dec.{ltb, leb, eqb}
 use lib.ListN.{length, drop}
-use Rattle.rules.specs.Answer.{Answer, refused, given}
-use Rattle.rules.specs.Perhaps.{Perhaps, there, absent}
-use Rattle.rules.specs.Refusal.{Row, judge, _when_}
-use Rattle.rules.specs.Set.{setOf}
-use Rattle.rules.specs.Walk.{find}
+use Rattle.ground.specs.House.{placeCount, lastNumber, leastOutput, lastFilterPid}
+use Rattle.ground.specs.Answer.{Answer, refused, given}
+use Rattle.ground.specs.Perhaps.{Perhaps, there, absent}
+use Rattle.ground.specs.Refusal.{Row, judge, _when_}
+use Rattle.ground.specs.Set.{setOf}
+use Rattle.ground.specs.Walk.{find}
 use Rattle.packet.specs.Packet.{packetRefusals, contents}
 use Rattle.gather.specs.Rule.{Outcome, rule, leavesNone}
 use Rattle.gather.specs.Kind.{join}
 use Rattle.driver.specs.Open.{Place}
-use Rattle.driver.specs.Packet.{unwanted, pidOf, payloadOf, packetFrom, report}
+use Rattle.packet.specs.Payload.{payloadOf}
+use Rattle.driver.specs.Packet.{unwanted, pidOf, packetFrom, report}
 use Rattle.runs.specs.Run.{Call, openCall, closeCall, packetCall, Event, openEvent, closeEvent, packetEvent}
-use Rattle.runs.specs.History.{Opening, Accepted, numbersGiven, openingOf, isOn, isClosed, hasArea, standing, areasTaken, packets, remembered}
+use Rattle.runs.specs.History.{Opening, Accepted, numbersGiven, openingOf, isOn, isClosed, moreOpens, standing, areasTaken, packets, remembered}
 
 -- ---- open: "12, 13, 14, 15"; the state of a run is sound, so 1 is never given
 -- nobody stands there
@@ -30,10 +32,10 @@ lowestFree h = find isAbsent (standing h)
 -- "PID above 0x1FFE"; "all 65,535 numbers given"; "32 filters are open"; "no area has this PID and all 8 are taken"
 abbrev pub openRows : List Accepted → ℕ → List Row
 openRows h pid =
-    (12 when ltb 0x1FFE pid)
-    ∷ (13 when leb 65535 (numbersGiven h))
-    ∷ (14 when leb 32 (lowestFree h))
-    ∷ (15 when (not (hasArea pid h) && leb 8 (areasTaken h)))
+    (12 when ltb lastFilterPid pid)
+    ∷ (13 when leb lastNumber (numbersGiven h))
+    ∷ (14 when leb placeCount (lowestFree h))
+    ∷ (15 when (not (moreOpens pid h) && leb 8 (areasTaken h)))
     ∷ []
 
 -- "given in rising order", from 1 on
@@ -50,7 +52,7 @@ closeAnswer h number = judge refused ((16 when not (isGiven h number)) ∷ []) (
 
 -- ---- packet: "3, 2, 4, 5, 6, 7, 8; then, if the PID has no area, "not wanted"; then 10, 11"; the area never contradicts the state, so 9 is never given
 abbrev pub earlyRows : List ℕ → List ℕ → List Row
-earlyRows p lent = (3 when ltb (length lent) 4278) ∷ packetRefusals p
+earlyRows p lent = (3 when ltb (length lent) leastOutput) ∷ packetRefusals p
 
 abbrev pub lateRows : List ℕ → List Row
 lateRows p = (10 when not (eqb (contents p .scrambling) 0)) ∷ (11 when leavesNone (contents p .unitStart) (payloadOf p)) ∷ []
@@ -71,7 +73,7 @@ written o lent = join (o .sections) ++ drop (length (join (o .sections))) lent
 abbrev pub packetAnswer : List Accepted → List ℕ → List ℕ → Event
 packetAnswer h p lent =
     judge (λ n. packetEvent p lent (refused n) lent) (earlyRows p lent)
-    (cond (hasArea (pidOf p) h)
+    (cond (moreOpens (pidOf p) h)
     (judge (λ n. packetEvent p lent (refused n) lent) (lateRows p)
     (packetEvent p lent (given (report (outcomeAfter h p) (placesAfter h (pidOf p)))) (written (outcomeAfter h p) lent)))
     (packetEvent p lent (given unwanted) lent))

@@ -5,17 +5,18 @@ use mathlib.Core.List.{List, [], _∷_, _++_, reverse}
 use Prim.Native.Nat.{ℕ, _+_, _<_}
 use lib.Dec.{eqb}
 use lib.ListN.{length, getD}
-use Rattle.rules.specs.Answer.{refused, given}
-use Rattle.rules.specs.Perhaps.{there, absent}
-use Rattle.rules.specs.Set.{isIn}
-use Rattle.rules.specs.Walk.{Every, keep}
-use Rattle.rules.specs.Write.{put}
+use Rattle.ground.specs.House.{areaCount, storeBytes}
+use Rattle.ground.specs.Answer.{refused, given}
+use Rattle.ground.specs.Perhaps.{there, absent}
+use Rattle.ground.specs.Set.{isIn}
+use Rattle.ground.specs.Walk.{Every, keep}
+use Rattle.ground.specs.Write.{put}
 use Rattle.gather.specs.Memory.{stateOf}
-use Rattle.driver.specs.State.{areaOf, isUsed, hasPid, baseOf, freeArea}
-use Rattle.driver.specs.Open.{Place, isHeld}
+use Rattle.driver.specs.State.{areaOf, isUsed, hasPid, areaStart, freeArea}
+use Rattle.driver.specs.Open.{Place, hasArea}
 use Rattle.driver.specs.Packet.{Said, pidOf, report}
 use Rattle.runs.specs.Run.{Driver, Call, openCall, closeCall, packetCall, World, Event, openEvent, closeEvent, packetEvent, after, event, runFrom, logFrom, start, playFrom, heardFrom}
-use Rattle.runs.specs.History.{Opening, Accepted, opened, closed, packet, accepted, isAccepted, isRefused, opens, closes, openingOf, isOn, isClosed, hasArea, standing, packets, since, upToClose, sectionsOf, handed, remembered, completed}
+use Rattle.runs.specs.History.{Opening, Accepted, opened, closed, packet, accepted, isAccepted, isRefused, opens, closes, openingOf, isOn, isClosed, moreOpens, standing, packets, since, upToClose, sectionsOf, handed, remembered, completed}
 use Rattle.runs.specs.Answers.{answerTo, outcomeAfter, written}
 
 -- ---- a run from a fresh state and a store
@@ -67,20 +68,20 @@ isOpenOn pid place h = isOn pid (getD (standing h) place absent)
 -- the demand of a driver and a run of calls, last first, from a fresh state and a store
 pub record DemandThree (d : Driver) (store : List ℕ) (calls : List Call) : Type 0 where
   -- "A PID has an area exactly while more of its opens than closes were accepted"
-  pub area : (pid : ℕ) → isHeld pid (worldAfter d store calls .state .areas) ≡ hasArea pid (history d store calls)
+  pub area : (pid : ℕ) → hasArea pid (worldAfter d store calls .state .areas) ≡ moreOpens pid (history d store calls)
   -- "no two PIDs share one"
-  pub apart : (pid other : ℕ) → isHeld pid (worldAfter d store calls .state .areas) ≡ true
+  pub apart : (pid other : ℕ) → hasArea pid (worldAfter d store calls .state .areas) ≡ true
       → areaOf pid (worldAfter d store calls .state .areas) ≡ areaOf other (worldAfter d store calls .state .areas) → pid ≡ other
   -- and no PID has two
-  pub single : (pid i j : ℕ) → i < 8 → j < 8 → hasPid pid (getD (worldAfter d store calls .state .areas) i freeArea) ≡ true
+  pub single : (pid i j : ℕ) → i < areaCount → j < areaCount → hasPid pid (getD (worldAfter d store calls .state .areas) i freeArea) ≡ true
       → hasPid pid (getD (worldAfter d store calls .state .areas) j freeArea) ≡ true → i ≡ j
   -- "each area's user count" is the opens of its PID less the closes
-  pub users : (i : ℕ) → i < 8 → isUsed (getD (worldAfter d store calls .state .areas) i freeArea) ≡ true
+  pub users : (i : ℕ) → i < areaCount → isUsed (getD (worldAfter d store calls .state .areas) i freeArea) ≡ true
       → getD (worldAfter d store calls .state .areas) i freeArea .users + closes (getD (worldAfter d store calls .state .areas) i freeArea .pid .0) (history d store calls)
       ≡ opens (getD (worldAfter d store calls .state .areas) i freeArea .pid .0) (history d store calls)
   -- what an area holds, in the state and in the store, is what demand 2's rule makes of the accepted packets of its PID since it was taken
-  pub holds : (i : ℕ) → i < 8 → isUsed (getD (worldAfter d store calls .state .areas) i freeArea) ≡ true
-      → stateOf (getD (worldAfter d store calls .state .areas) i freeArea .marks) (worldAfter d store calls .store) (baseOf i)
+  pub holds : (i : ℕ) → i < areaCount → isUsed (getD (worldAfter d store calls .state .areas) i freeArea) ≡ true
+      → stateOf (getD (worldAfter d store calls .state .areas) i freeArea .marks) (worldAfter d store calls .store) (areaStart i)
       ≡ remembered (packets (getD (worldAfter d store calls .state .areas) i freeArea .pid .0) (history d store calls))
   -- "a closed filter number is refused for good"
   pub gone : (number : ℕ) → isClosed number (history d store calls) ≡ true → event d (worldAfter d store calls) (closeCall number) ≡ closeEvent number (refused 16)
@@ -104,7 +105,7 @@ pub record DemandThree (d : Driver) (store : List ℕ) (calls : List Call) : Typ
   -- of each accepted packet: of the store only the bytes that its PID's area holds after it are written
   pub writes : (p lent : List ℕ) → isAccepted (event d (worldAfter d store calls) (packetCall p lent)) ≡ true
       → after d (worldAfter d store calls) (packetCall p lent) .store
-      ≡ put (worldAfter d store calls .store) (baseOf (areaOf (pidOf p) (worldAfter d store calls .state .areas))) (outcomeAfter (history d store calls) p .next .held)
+      ≡ put (worldAfter d store calls .store) (areaStart (areaOf (pidOf p) (worldAfter d store calls .state .areas))) (outcomeAfter (history d store calls) p .next .held)
   -- the number of sections in an answer is that of the sections in the output
   pub counts : Every IsCounted (history d store calls)
   -- "What an open filter is handed is exactly the sections that demand 2's rule completes, since its open, from the accepted packets of its PID since the area was taken";
@@ -125,7 +126,7 @@ pub record DemandThree (d : Driver) (store : List ℕ) (calls : List Call) : Typ
 
 -- the demand of every run, from every store of 32,768 bytes
 abbrev pub Statement : Driver → Type 0
-Statement d = (store : List ℕ) (calls : List Call) → length store ≡ 32768 → DemandThree d store calls
+Statement d = (store : List ℕ) (calls : List Call) → length store ≡ storeBytes → DemandThree d store calls
 
 -- calls as they come lead to the same world and the same log, which is only turned round
 abbrev pub InOrder : Driver → Type 0

@@ -4,9 +4,9 @@ use mathlib.Core.List.{List, [], _∷_, _++_, map, reverse}
 use Prim.Native.Nat.{ℕ, suc, _+_, _-_}
 use lib.Dec.{eqb, ltb}
 use lib.ListN.{take, drop, set, replicate}
-use Rattle.rules.specs.Answer.{refused, given}
-use Rattle.rules.specs.Perhaps.{Perhaps, there, absent}
-use Rattle.rules.specs.Set.{isIn}
+use Rattle.ground.specs.Answer.{refused, given}
+use Rattle.ground.specs.Perhaps.{Perhaps, there, absent}
+use Rattle.ground.specs.Set.{isIn}
 use Rattle.gather.specs.Rule.{State, Packet, blank}
 use Rattle.gather.specs.Run.{run}
 use Rattle.gather.specs.Kind.{cut}
@@ -100,8 +100,8 @@ isClosed number (closed n ∷ h) = eqb n number || isClosed number h
 isClosed number (packet p lent r out ∷ h) = isClosed number h
 
 -- "A PID has an area exactly while more of its opens than closes were accepted"
-abbrev pub hasArea : ℕ → List Accepted → Bool
-hasArea pid h = ltb (closes pid h) (opens pid h)
+abbrev pub moreOpens : ℕ → List Accepted → Bool
+moreOpens pid h = ltb (closes pid h) (opens pid h)
 
 -- an open, unless it gave this number
 abbrev pub unless : ℕ → Perhaps Opening → Perhaps Opening
@@ -118,12 +118,12 @@ standing (packet p lent r out ∷ h) = standing h
 -- a close of a number leaves its PID without an area
 abbrev pub isLast : Perhaps Opening → List Accepted → Bool
 isLast absent h = false
-isLast (there f) h = not (hasArea (f .pid) h)
+isLast (there f) h = not (moreOpens (f .pid) h)
 
 -- how many areas are taken: an open takes one where its PID has none, and the last close on a PID frees it
 abbrev pub areasTaken : List Accepted → ℕ
 areasTaken [] = 0
-areasTaken (opened f ∷ h) = areasTaken h + cond (hasArea (f .pid) h) 0 1
+areasTaken (opened f ∷ h) = areasTaken h + cond (moreOpens (f .pid) h) 0 1
 areasTaken (closed number ∷ h) = areasTaken h - cond (isLast (openingOf number h) (closed number ∷ h)) 1 0
 areasTaken (packet p lent r out ∷ h) = areasTaken h
 

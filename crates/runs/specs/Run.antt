@@ -1,18 +1,18 @@
 -- The third demand: "any run of opens, closes and packet calls from a fresh state, refused ones among them, each given the last state and a store nobody else has touched".
 use mathlib.Core.List.{List, [], _∷_}
 use Prim.Native.Nat.{ℕ}
-use Rattle.rules.specs.Answer.{Answer}
+use Rattle.ground.specs.Answer.{Answer}
 use Rattle.driver.specs.State.{fresh}
 use Rattle.driver.specs.Open.{Place, AfterOpen, openOf}
-use Rattle.driver.specs.Close.{Outcome, closeOf}
-use Rattle.driver.specs.Packet.{Said, After, packetOf}
-use Rattle.driver.specs.declared.State.{State}
+use Rattle.driver.specs.Close.{AfterClose, closeOf}
+use Rattle.driver.specs.Packet.{Said, AfterPacket, packetOf}
+use Rattle.driver.specs.declared.state.State.{State}
 
 -- a driver, by what its three calls leave. The demand is stated of any, so that a wrong one can be held to it
 pub record Driver : Type 0 where
   pub onOpen : State → ℕ → AfterOpen
-  pub onClose : State → ℕ → Outcome
-  pub onPacket : State → List ℕ → List ℕ → List ℕ → After
+  pub onClose : State → ℕ → AfterClose
+  pub onPacket : State → List ℕ → List ℕ → List ℕ → AfterPacket
 
 -- ours, by the definitions that its calls promise to meet
 abbrev pub ours : Driver

@@ -4,18 +4,19 @@ use mathlib.Core.List.{List, [], _∷_}
 use Prim.Native.Nat.{ℕ, zero, suc, _+_, _-_, _*_}
 use lib.Dec.{eqb}
 use lib.ListN.{getD, take, drop, set, replicate}
-use Rattle.rules.specs.Answer.{Answer, refused, given}
-use Rattle.rules.specs.Set.{setOf}
-use Rattle.rules.specs.Walk.{Every}
-use Rattle.rules.specs.Write.{put}
+use Rattle.ground.specs.House.{areaBytes}
+use Rattle.ground.specs.Answer.{Answer, refused, given}
+use Rattle.ground.specs.Set.{setOf}
+use Rattle.ground.specs.Walk.{Every}
+use Rattle.ground.specs.Write.{put}
 use Rattle.section.specs.Section.{sectionSize}
 use Rattle.driver.specs.State.{isFree, standsOn, areaOf, placeOf, freeArea}
 use Rattle.driver.specs.Open.{AfterOpen, openOf}
-use Rattle.driver.specs.Close.{Outcome, closeOf, areaAt}
-use Rattle.driver.specs.Packet.{Said, After, unwanted, still, pidOf, packetOf}
-use Rattle.driver.specs.declared.Area.{Area}
-use Rattle.driver.specs.declared.Filter.{Filter}
-use Rattle.driver.specs.declared.State.{State}
+use Rattle.driver.specs.Close.{AfterClose, closeOf, areaAt}
+use Rattle.driver.specs.Packet.{Said, AfterPacket, unwanted, asGiven, pidOf, packetOf}
+use Rattle.driver.specs.declared.state.Area.{Area}
+use Rattle.driver.specs.declared.state.Filter.{Filter}
+use Rattle.driver.specs.declared.state.State.{State}
 use Rattle.runs.specs.Run.{Driver}
 use Rattle.runs.specs.Demand.{Statement}
 
@@ -23,10 +24,10 @@ use Rattle.runs.specs.Demand.{Statement}
 abbrev pub withOpen : (State → ℕ → AfterOpen) → Driver
 withOpen onOpen = record { onOpen = onOpen; onClose = closeOf; onPacket = packetOf }
 
-abbrev pub withClose : (State → ℕ → Outcome) → Driver
+abbrev pub withClose : (State → ℕ → AfterClose) → Driver
 withClose onClose = record { onOpen = openOf; onClose = onClose; onPacket = packetOf }
 
-abbrev pub withPacket : (State → List ℕ → List ℕ → List ℕ → After) → Driver
+abbrev pub withPacket : (State → List ℕ → List ℕ → List ℕ → AfterPacket) → Driver
 withPacket onPacket = record { onOpen = openOf; onClose = closeOf; onPacket = onPacket }
 
 -- of a wanted packet something else is said
@@ -34,7 +35,7 @@ abbrev pub toldAs : (Said → Said) → Answer Said → Answer Said
 toldAs tell (refused n) = refused n
 toldAs tell (given r) = given (cond (r .wanted) (tell r) r)
 
-abbrev pub retold : (Said → Said) → After → After
+abbrev pub retold : (Said → Said) → AfterPacket → AfterPacket
 retold tell a = record { answer = toldAs tell (a .answer); state = a .state; store = a .store; out = a .out }
 
 abbrev pub toldPlaces : ℕ → Said → Said
@@ -50,7 +51,7 @@ toldJump r =
     record { wanted = r .wanted; sections = r .sections; bytes = r .bytes; places = r .places; jump = true; repeat = r .repeat; givenUp = r .givenUp }
 
 -- other bytes of the output are written after a packet
-abbrev pub rewritten : (After → List ℕ) → After → After
+abbrev pub rewritten : (AfterPacket → List ℕ) → AfterPacket → AfterPacket
 rewritten out a = record { answer = a .answer; state = a .state; store = a .store; out = out a }
 
 abbrev pub bytesSaid : Answer Said → ℕ
@@ -75,7 +76,7 @@ closedPlaceTold = withPacket (λ s p store out. retold (toldPlaces (everTaken (a
 -- ---- what is told
 -- a byte of another area stands in the output behind the sections
 abbrev pub otherAreaWritten : Driver
-otherAreaWritten = withPacket (λ s p store out. rewritten (λ a. put (a .out) (bytesSaid (a .answer)) (take 1 (drop 4096 store))) (packetOf s p store out))
+otherAreaWritten = withPacket (λ s p store out. rewritten (λ a. put (a .out) (bytesSaid (a .answer)) (take 1 (drop areaBytes store))) (packetOf s p store out))
 
 -- a jump is told that the rule does not have
 abbrev pub jumpInvented : Driver
@@ -95,7 +96,7 @@ restFeigned =
 
 -- all packets are dropped: none is wanted
 abbrev pub packetsDropped : Driver
-packetsDropped = withPacket (λ s p store out. still s store out (given unwanted))
+packetsDropped = withPacket (λ s p store out. asGiven s store out (given unwanted))
 
 -- every open is refused
 abbrev pub opensRefused : Driver
@@ -103,14 +104,14 @@ opensRefused = withOpen (λ s pid. record { answer = refused 14; state = s })
 
 -- every packet is refused
 abbrev pub packetsRefused : Driver
-packetsRefused = withPacket (λ s p store out. still s store out (refused 10))
+packetsRefused = withPacket (λ s p store out. asGiven s store out (refused 10))
 
 -- a packet's first byte is left in another area of the store
 abbrev pub otherAreaSpoilt : Driver
 otherAreaSpoilt =
     withPacket (λ s p store out.
     let a = packetOf s p store out in
-    record { answer = a .answer; state = a .state; store = put (a .store) 4096 (take 1 p); out = a .out })
+    record { answer = a .answer; state = a .state; store = put (a .store) areaBytes (take 1 p); out = a .out })
 
 -- ---- who shares an area
 -- an area is freed at the first close

@@ -1,6 +1,6 @@
 -- A promise that is an equation leaves one outcome.
 -- Assumes nothing.
-use Rattle.rules.proofs.Outcome.{determined}
+use Rattle.ground.proofs.Outcome.{determined}
 use Rattle.section.specs.Section.{lengthField}
 use Rattle.section.specs.Claims.{Claims}
 

@@ -1,6 +1,6 @@
 -- What is claimed of the definitions and the promises, and proved.
 use Prim.Native.Nat.{ℕ}
-use Rattle.rules.specs.Outcome.{Determined}
+use Rattle.ground.specs.Outcome.{Determined}
 use Rattle.section.specs.Promises.{SaysLength}
 
 pub record Claims : Type 0 where

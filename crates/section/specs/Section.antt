@@ -2,7 +2,7 @@
 use mathlib.Core.List.{List}
 use Prim.Native.Nat.{ℕ, _+_, _*_}
 use lib.ListN.{getD}
-use Rattle.rules.specs.Number.{bits}
+use Rattle.ground.specs.Number.{bits}
 
 -- section_length: the last 12 bits of a section's second and third byte
 abbrev pub lengthField : ℕ → ℕ → ℕ

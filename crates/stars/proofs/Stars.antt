@@ -1,8 +1,8 @@
 -- Every ★ case holds, since the cases of each layer do.
 -- Assumes nothing.
 use mathlib.Core.List.{map, _++_}
-use Rattle.rules.specs.Walk.{Every}
-use Rattle.rules.proofs.Walk.{every-map, every-append}
+use Rattle.ground.specs.Walk.{Every}
+use Rattle.ground.proofs.Walk.{every-map, every-append}
 use Rattle.stars.specs.Stars.{Right, cases, inTime, inPacket, inGathering, inFilters}
 use Rattle.clock.specs.Stars as time
 use Rattle.packet.specs.Stars as packets

@@ -1,6 +1,6 @@
 -- Document 01, "Examples (★ to be proved)": all ★ cases, by layer. Each layer's cases, with what they claim, stand in its own Stars.antt.
 use mathlib.Core.List.{List, _++_, map}
-use Rattle.rules.specs.Walk.{Every}
+use Rattle.ground.specs.Walk.{Every}
 use Rattle.clock.specs.Stars as time
 use Rattle.packet.specs.Stars as packets
 use Rattle.gather.specs.Stars as gathering

@@ -1,5 +1,5 @@
 // The ★ cases of document 01: one list in specs/, one statement, proved in proofs/.
-ghost use Rattle.rules.specs.Outcome.{Stated};
+ghost use Rattle.ground.specs.Outcome.{Stated};
 ghost use Rattle.stars.specs.Stars.{EveryCase};
 
 // True, and with it every ★ case.

@@ -2,25 +2,24 @@
 -- Assumes nothing.
 use mathlib.Core.Path.{_≡_, refl, sym, _∙_, ap, ap₂}
 use mathlib.Core.List.{List}
-use Prim.Native.Nat.{ℕ, _+_, _-_, _%_, _≤_, _<_}
+use Prim.Native.Nat.{ℕ, _+_, _%_, _≤_, _<_}
 use native.Mathlib.Nat.{add-zero, div-one}
 use native.Mathlib.Omega.{arith}
 use lib.Dec.{lit<}
 use lib.ListN.{length, getD, drop}
 use lib.Seq.{getD-take, getD-drop}
-use Rattle.rules.specs.Answer.{refused, given}
-use Rattle.rules.specs.Refusal.{judge, Silent}
-use Rattle.rules.proofs.Judged.{given-by}
-use Rattle.rules.proofs.Refusal.{yes≤, no≤, accepted}
+use Rattle.ground.specs.Answer.{refused, given}
+use Rattle.ground.specs.Refusal.{judge, Silent}
+use Rattle.ground.proofs.Judged.{given-by, passed-over}
+use Rattle.ground.proofs.Refusal.{yes≤, no≤, accepted}
 use Rattle.tables.specs.Section.{byteAt, wordOf, wordAt, headingOf}
 use Rattle.tables.specs.Loop.{Descriptor, Entry}
-use Rattle.tables.specs.Pmt.{bodyOf, programOf, streamsOf, loopsOf, loopAt, descriptorAt, pmtRefusals, pmtHeadingOf, pmtHeaderOf, streamOf, noEntry, pmtMissing, pmtEntryOf, placeOf, descriptorMissing, descriptorIn}
+use Rattle.tables.specs.Pmt.{programOf, streamsOf, loopsOf, loopAt, descriptorAt, pmtRefusals, pmtHeadingOf, pmtHeaderOf, streamOf, noEntry, pmtMissing, pmtEntryOf, placeOf, descriptorMissing, descriptorIn}
 use Rattle.tables.specs.Steps.Walk.{Met, Found, foundIn, pmtWalkedOf}
-use Rattle.tables.proofs.Carried.{passed-over}
-use Rattle.tables.proofs.Fine.{PmtPassed, pmt-passed}
-use Rattle.tables.proofs.Placed.{body, descriptor-stands, entry-stands}
+use Rattle.tables.proofs.PassedShared.{PmtPassed, pmt-passed}
+use Rattle.tables.proofs.Placed.{descriptor-stands, entry-stands}
 use Rattle.tables.proofs.Seek.{found-loops, loops-length, found-start, found-count, found-size, found-place}
-use Rattle.tables.proofs.Stand.{Stands, EntryStands}
+use Rattle.tables.proofs.Placement.{Stands, EntryStands}
 
 -- ---- what a whole walk shows, of n entries
 module _ (s : List ℕ) (asked item n : ℕ) (m : Met) (e : pmtWalkedOf asked item s ≡ given (record { loops = n + 1; own = m })) where
@@ -69,20 +68,17 @@ module _ (s : List ℕ) (i n : ℕ) (m : Met) (e : pmtWalkedOf (i + 1) 0 s ≡ g
     counted : m .size ≡ length (own .descriptors)
     counted = ap (λ (x : Found). x .own .size) (found s (i + 1) 0 n m e) ∙ found-count s i listed
 
-    own-stands : EntryStands (bodyOf s) own
+    own-stands : EntryStands s own
     own-stands = entry-stands s (good s (i + 1) 0 n m e) i listed
 
     pub entry-inside : m .place + 5 ≤ length s
-    entry-inside = let t = own-stands .inside in omega (arith, start, body s (good s (i + 1) 0 n m e))
+    entry-inside = let t = own-stands .inside in omega (arith, start)
 
     lead : (j : ℕ) → j < 5 → getD (own .lead) j 0 ≡ getD s (m .place + j) 0
     lead j l =
-        let t = own-stands .inside in
-        let k : own .at + j < length s - 4 = omega (arith, body s (good s (i + 1) 0 n m e)) in
         ap (λ (x : List ℕ). getD x j 0) (own-stands .lead)
-        ∙ getD-take 5 (drop (own .at) (bodyOf s)) j 0 l
-        ∙ getD-drop (own .at) (bodyOf s) j 0
-        ∙ getD-take (length s - 4) s (own .at + j) 0 k
+        ∙ getD-take 5 (drop (own .at) s) j 0 l
+        ∙ getD-drop (own .at) s j 0
         ∙ ap (λ (x : ℕ). getD s (x + j) 0) (sym start)
 
     pub entry-there : pmtEntryOf s i

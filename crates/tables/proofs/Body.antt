@@ -4,8 +4,8 @@ use mathlib.Core.Path.{_≡_, refl}
 use mathlib.Core.Bool.{Bool, true, false, cond, not, _&&_}
 use mathlib.Core.List.{List}
 use Prim.Native.Nat.{ℕ, _+_}
-use Rattle.rules.specs.Answer.{Answer, refused, given}
-use Rattle.rules.specs.Refusal.{judge}
+use Rattle.ground.specs.Answer.{Answer, refused, given}
+use Rattle.ground.specs.Refusal.{judge}
 use Rattle.tables.specs.Pmt.{bodyOf, infoLength, programOf, streamsOf, pmtLoops}
 use Rattle.tables.specs.Steps.Walk.{Found, met, walkDescriptors, foundIn}
 

@@ -4,9 +4,9 @@ use mathlib.Core.Path.{_≡_, refl}
 use mathlib.Core.List.{List}
 use Prim.Native.Nat.{ℕ, _+_, _≤_}
 use native.Mathlib.Omega.{arith}
-use Rattle.rules.specs.Answer.{Answer, refused, given}
-use Rattle.rules.proofs.Judged.{exact, given-by}
-use Rattle.rules.proofs.Outcome.{determined, determined-told}
+use Rattle.ground.specs.Answer.{Answer, refused, given}
+use Rattle.ground.proofs.Judged.{exact, given-by}
+use Rattle.ground.proofs.Outcome.{determined, determined-told}
 use Rattle.tables.specs.Answers.{Heading, PatHeading, Association, PmtHeading, ElementaryStream, DescriptorPlace, toldPatHeader, toldPatEntry, toldPmtHeader, toldPmtEntry, toldPmtDescriptor}
 use Rattle.tables.specs.Pat
 use Rattle.tables.specs.Pmt
@@ -22,7 +22,7 @@ use Rattle.tables.specs.declared.pmt.PmtEntry.{PmtEntry}
 use Rattle.tables.specs.declared.pmt.PmtEntry.the-variants as pmt-entry
 use Rattle.tables.specs.declared.pmt.PmtDescriptor.{PmtDescriptor}
 use Rattle.tables.specs.declared.pmt.PmtDescriptor.the-variants as pmt-descriptor
-use Rattle.tables.proofs.Fine.{PmtPassed, pmt-passed}
+use Rattle.tables.proofs.PassedShared.{PmtPassed, pmt-passed}
 use Rattle.tables.proofs.Limits.{pat-limit, pat-bytes, pmt-limit, pmt-bytes}
 use Rattle.tables.proofs.Placed.{part-inside, part-bytes}
 

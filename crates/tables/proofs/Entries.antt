@@ -1,63 +1,21 @@
--- The laws of entries, one for each kind of start that their bytes can have: a bound on their number that is at least the number of bytes changes nothing.
+-- The laws of entries, one for each kind of start that their bytes can have.
 -- Assumes nothing.
 use mathlib.Core.Path.{_≡_, refl, sym, _∙_, ap, ap₂}
 use mathlib.Core.Bool.{Bool, true, false, cond, _&&_, true≢false}
-use mathlib.Core.List.{List, [], _∷_}
-use Prim.Native.Nat.{ℕ, zero, suc, _+_, _-_, _/_, _%_, _≤_, _<_}
-use native.Mathlib.Nat.{not-suc-le-zero, le-refl, div-one}
+use mathlib.Core.List.{List}
+use Prim.Native.Nat.{ℕ, _+_, _-_, _/_, _%_, _≤_, _<_}
+use native.Mathlib.Nat.{div-one}
 use native.Mathlib.Omega.{arith}
 use borrow.Author.Tests.{le-leb, lt-leb, eq-eqb, ne-eqb}
 use lib.Dec.{leb, eqb}
 use lib.ListN.{length, getD, take, drop, length-drop, drop-of-length-le}
 use lib.Seq.{slice, getD-drop, drop-drop}
-use Rattle.rules.specs.Number.{bits}
+use Rattle.ground.specs.Items.{Step, takes, ends}
+use Rattle.ground.specs.Number.{bits}
+use Rattle.ground.proofs.Items.{items-on, items-end}
+use Rattle.ground.proofs.Part.{slice-take}
 use Rattle.tables.specs.Section.{wordOf, wordAt}
-use Rattle.tables.specs.Loop.{Loop, unfilled, onto, Descriptor, Entry, descriptorsOf, entriesUpTo, entriesOf, fits}
-use Rattle.tables.proofs.Parts.{slice-take}
-
--- any two bounds that are at least the number of bytes give the same
-same-entries : (m k at : ℕ) (bytes : List ℕ) → length bytes ≤ m → length bytes ≤ k → entriesUpTo m at bytes ≡ entriesUpTo k at bytes
-same-entries zero zero at bytes h l = refl
-same-entries zero (suc k) at [] h l = refl
-same-entries zero (suc k) at (x ∷ xs) h l = absurd (not-suc-le-zero h)
-same-entries (suc m) zero at [] h l = refl
-same-entries (suc m) zero at (x ∷ xs) h l = absurd (not-suc-le-zero l)
-same-entries (suc m) (suc k) at [] h l = refl
-same-entries (suc m) (suc k) at (x ∷ xs) h l =
-    let bytes = x ∷ xs in
-    let word = wordAt bytes 3 in
-    let n = bits word 0 12 in
-    let own = descriptorsOf (at + 5) (take n (drop 5 bytes)) in
-    let e = length-drop n (drop 5 bytes) in
-    let e′ = length-drop 5 bytes in
-    ap (λ (y : Loop Entry).
-    cond (leb 5 (length bytes) && (fits word (length (drop 5 bytes)) && own .fills))
-    (onto (record { at = at; lead = take 5 bytes; descriptors = own .items }) y) unfilled)
-    (same-entries m k (at + 5 + n) (drop n (drop 5 bytes)) (omega arith) (omega arith))
-
--- an entry and what follows it
-entry : (at : ℕ) (bytes : List ℕ) → 0 < length bytes
-    → entriesOf at bytes
-    ≡ cond
-    (leb 5 (length bytes)
-    && (fits (wordAt bytes 3) (length (drop 5 bytes)) && descriptorsOf (at + 5) (take (bits (wordAt bytes 3) 0 12) (drop 5 bytes)) .fills))
-    (onto
-    (record { at = at; lead = take 5 bytes; descriptors = descriptorsOf (at + 5) (take (bits (wordAt bytes 3) 0 12) (drop 5 bytes)) .items })
-    (entriesOf (at + 5 + bits (wordAt bytes 3) 0 12) (drop (bits (wordAt bytes 3) 0 12) (drop 5 bytes))))
-    unfilled
-unfolding entriesOf
-entry at [] h = absurd (not-suc-le-zero h)
-entry at (x ∷ xs) h =
-    let bytes = x ∷ xs in
-    let word = wordAt bytes 3 in
-    let n = bits word 0 12 in
-    let own = descriptorsOf (at + 5) (take n (drop 5 bytes)) in
-    let e = length-drop n (drop 5 bytes) in
-    let e′ = length-drop 5 bytes in
-    ap (λ (y : Loop Entry).
-    cond (leb 5 (length bytes) && (fits word (length (drop 5 bytes)) && own .fills))
-    (onto (record { at = at; lead = take 5 bytes; descriptors = own .items }) y) unfilled)
-    (same-entries (length xs) (length (drop n (drop 5 bytes))) (at + 5 + n) (drop n (drop 5 bytes)) (omega arith) (le-refl (length (drop n (drop 5 bytes)))))
+use Rattle.tables.specs.Loop.{Loop, filled, unfilled, onto, Descriptor, Entry, descriptorsOf, firstEntry, entriesOf, fits}
 
 -- ---- the tests of an entry
 still-false : (a b o : Bool) → (a && b) ≡ false → (a && (b && o)) ≡ false
@@ -86,7 +44,7 @@ abbrev pub wordFrom : List ℕ → ℕ → ℕ
 wordFrom b at = wordOf (getD b (at + 3) 0) (getD b (at + 4) 0)
 
 -- ---- the entries from a place on
-pub no-entries : (b : List ℕ) (at : ℕ) → at ≡ length b → entriesOf at (drop at b) ≡ record { fills = true; items = [] }
+pub no-entries : (b : List ℕ) (at : ℕ) → at ≡ length b → entriesOf at (drop at b) ≡ filled
 unfolding entriesOf
 no-entries b at e = let h : length b ≤ at = omega arith in rw (drop-of-length-le b h) refl
 
@@ -97,11 +55,8 @@ module _ (b : List ℕ) (at : ℕ) where
   abbrev own : Loop Descriptor
   own = descriptorsOf (at + 5) (take (bits (wordAt bytes 3) 0 12) (drop 5 bytes))
 
-  abbrev others : Loop Entry
-  others = entriesOf (at + 5 + bits (wordAt bytes 3) 0 12) (drop (bits (wordAt bytes 3) 0 12) (drop 5 bytes))
-
-  abbrev tested : Bool → Loop Entry
-  tested t = cond t (onto (record { at = at; lead = take 5 bytes; descriptors = own .items }) others) unfilled
+  abbrev step : Bool → Step Entry (Loop Entry)
+  step t = cond t (takes (5 + bits (wordAt bytes 3) 0 12) (record { at = at; lead = take 5 bytes; descriptors = own .items })) (ends unfilled)
 
   word-drop : wordAt bytes 3 ≡ wordFrom b at
   word-drop = ap₂ wordOf (getD-drop at b 3 0) (getD-drop at b 4 0)
@@ -111,7 +66,10 @@ module _ (b : List ℕ) (at : ℕ) where
 
   -- a test of an entry that fails
   failed : 0 < length bytes → (leb 5 (length bytes) && fits (wordAt bytes 3) (length (drop 5 bytes))) ≡ false → entriesOf at bytes ≡ unfilled
-  failed h e = entry at bytes h ∙ ap tested (still-false (leb 5 (length bytes)) (fits (wordAt bytes 3) (length (drop 5 bytes))) (own .fills) e)
+  unfolding entriesOf
+  failed h e =
+      items-end onto firstEntry filled at bytes unfilled h
+      (ap step (still-false (leb 5 (length bytes)) (fits (wordAt bytes 3) (length (drop 5 bytes))) (own .fills) e))
 
   pub entry-short : at < length b → length b - at < 5 → entriesOf at bytes ≡ unfilled
   entry-short h l =
@@ -133,6 +91,17 @@ module _ (b : List ℕ) (at : ℕ) where
   size : bits (wordAt bytes 3) 0 12 ≡ wordFrom b at % 4096
   size = ap (λ (x : ℕ). x % 4096) (div-one (wordAt bytes 3) ∙ word-drop)
 
+  -- an entry whose own tests pass, by whether its descriptors fill their loop
+  tried : 0 < length bytes → (t : Bool) → firstEntry at bytes ≡ step t
+      → entriesOf at bytes
+      ≡ cond t
+      (onto (record { at = at; lead = take 5 bytes; descriptors = own .items })
+      (entriesOf (at + (5 + bits (wordAt bytes 3) 0 12)) (drop (5 + bits (wordAt bytes 3) 0 12) bytes)))
+      unfilled
+  unfolding entriesOf
+  tried h true e = items-on onto firstEntry filled at bytes (5 + bits (wordAt bytes 3) 0 12) _ h (omega arith) e
+  tried h false e = items-end onto firstEntry filled at bytes unfilled h e
+
   pub entry-on : at + 5 ≤ length b → wordFrom b at / 1024 % 4 ≡ 0 → wordFrom b at % 4096 ≤ length b - at - 5
       → entriesOf at bytes
       ≡ cond (descriptorsOf (at + 5) (slice (at + 5) (at + 5 + wordFrom b at % 4096) b) .fills)
@@ -147,9 +116,8 @@ module _ (b : List ℕ) (at : ℕ) where
       let fit : fits (wordAt bytes 3) (length (drop 5 bytes)) ≡ true = rw (word-drop, left) (fitting (wordFrom b at) (length b - at - 5) z l) in
       let own-is : own ≡ descriptorsOf (at + 5) (slice (at + 5) (at + 5 + n) b) =
       ap₂ (λ (k : ℕ) (r : List ℕ). descriptorsOf (at + 5) (take k r)) size rest ∙ ap (descriptorsOf (at + 5)) (sym (slice-take (at + 5) n b)) in
-      let others-are : others ≡ entriesOf (at + 5 + n) (drop (at + 5 + n) b) =
-      ap₂ (λ (k : ℕ) (r : List ℕ). entriesOf (at + 5 + k) (drop k r)) size rest ∙ ap (entriesOf (at + 5 + n)) (drop-drop n (at + 5) b) in
-      entry at bytes (omega (arith, length-drop at b))
-      ∙ ap tested (all-true (leb 5 (length bytes)) (fits (wordAt bytes 3) (length (drop 5 bytes))) (own .fills) five fit)
+      let place : at + (5 + bits (wordAt bytes 3) 0 12) ≡ at + 5 + n = omega (arith, size) in
+      tried (omega (arith, length-drop at b)) (own .fills)
+      (ap step (all-true (leb 5 (length bytes)) (fits (wordAt bytes 3) (length (drop 5 bytes))) (own .fills) five fit))
       ∙ ap₂ (λ (o : Loop Descriptor) (es : Loop Entry). cond (o .fills) (onto (record { at = at; lead = take 5 bytes; descriptors = o .items }) es) unfilled)
-      own-is others-are
+      own-is (ap (entriesOf (at + (5 + bits (wordAt bytes 3) 0 12))) (drop-drop (5 + bits (wordAt bytes 3) 0 12) at b) ∙ ap (λ (m : ℕ). entriesOf m (drop m b)) place)

@@ -4,8 +4,8 @@ use mathlib.Core.Path.{_≡_, refl}
 use mathlib.Core.Bool.{true}
 use mathlib.Core.List.{List, [], _∷_}
 use Prim.Native.Nat.{ℕ}
-use Rattle.rules.specs.Answer.{refused, given}
-use Rattle.crc.specs.Figure.{clock, decoder, right}
+use Rattle.ground.specs.Answer.{refused, given}
+use Rattle.crc.specs.Figure.{tick, decoder, right}
 use Rattle.tables.specs.Loop.{descriptorsOf, entriesOf}
 use Rattle.tables.specs.Pat.{patOf, patHeaderOf, patEntryOf}
 use Rattle.tables.specs.Pmt.{programOf, streamsOf, pmtHeaderOf, pmtEntryOf, descriptorIn}
@@ -16,19 +16,19 @@ pat =
     0x00 ∷ 0xB0 ∷ 0x11 ∷ 0x00 ∷ 0x01 ∷ 0xC1 ∷ 0x00 ∷ 0x00 ∷ 0x00 ∷ 0x00 ∷ 0xE0 ∷ 0x10 ∷ 0x00 ∷ 0x01 ∷ 0xE1 ∷ 0x00 ∷ 0x9E ∷ 0xA6 ∷ 0x64 ∷ 0x96 ∷ []
 
 pub pat-header : patHeaderOf pat ≡ given (record { heading = record { id = 1; version = 0; current = true; sectionNumber = 0; lastNumber = 0 }; entries = 2 })
-unfolding clock decoder right patOf
+unfolding tick decoder right patOf
 pat-header = refl
 
 pub pat-network : patEntryOf pat 0 ≡ given (record { programNumber = 0; pid = 0x0010 })
-unfolding clock decoder right patOf
+unfolding tick decoder right patOf
 pat-network = refl
 
 pub pat-program : patEntryOf pat 1 ≡ given (record { programNumber = 1; pid = 0x0100 })
-unfolding clock decoder right patOf
+unfolding tick decoder right patOf
 pat-program = refl
 
 pub pat-third : patEntryOf pat 2 ≡ refused 27
-unfolding clock decoder right patOf
+unfolding tick decoder right patOf
 pat-third = refl
 
 -- program 1: the clock is on PID 0x0101, with a descriptor; video on 0x0101, and audio on 0x0102 with two descriptors
@@ -37,22 +37,22 @@ pmt =
     0x02 ∷ 0xB0 ∷ 0x26 ∷ 0x00 ∷ 0x01 ∷ 0xC5 ∷ 0x00 ∷ 0x00 ∷ 0xE1 ∷ 0x01 ∷ 0xF0 ∷ 0x06 ∷ 0x09 ∷ 0x04 ∷ 0x0B ∷ 0x00 ∷ 0xE2 ∷ 0x00 ∷ 0x1B ∷ 0xE1 ∷ 0x01 ∷ 0xF0 ∷ 0x00 ∷ 0x0F ∷ 0xE1 ∷ 0x02 ∷ 0xF0 ∷ 0x09 ∷ 0x0A ∷ 0x04 ∷ 0x65 ∷ 0x6E ∷ 0x67 ∷ 0x00 ∷ 0x52 ∷ 0x01 ∷ 0x07 ∷ 0x8D ∷ 0xD8 ∷ 0x17 ∷ 0xC9 ∷ []
 
 pub pmt-header : pmtHeaderOf pmt ≡ given (record { heading = record { id = 1; version = 2; current = true; sectionNumber = 0; lastNumber = 0 }; pcrPid = 0x0101; descriptors = 1; entries = 2 })
-unfolding clock decoder right programOf streamsOf descriptorsOf entriesOf
+unfolding tick decoder right programOf streamsOf descriptorsOf entriesOf
 pmt-header = refl
 
 pub pmt-audio : pmtEntryOf pmt 1 ≡ given (record { streamType = 0x0F; pid = 0x0102; descriptors = 2 })
-unfolding clock decoder right programOf streamsOf descriptorsOf entriesOf
+unfolding tick decoder right programOf streamsOf descriptorsOf entriesOf
 pmt-audio = refl
 
 pub pmt-program-descriptor : descriptorIn pmt 0 0 ≡ given (record { tag = 0x09; start = 14; size = 4 })
-unfolding clock decoder right programOf streamsOf descriptorsOf entriesOf
+unfolding tick decoder right programOf streamsOf descriptorsOf entriesOf
 pmt-program-descriptor = refl
 
 pub pmt-audio-descriptor : descriptorIn pmt 2 1 ≡ given (record { tag = 0x52; start = 36; size = 1 })
-unfolding clock decoder right programOf streamsOf descriptorsOf entriesOf
+unfolding tick decoder right programOf streamsOf descriptorsOf entriesOf
 pmt-audio-descriptor = refl
 
 -- the video stream has no descriptor
 pub pmt-none : descriptorIn pmt 1 0 ≡ refused 27
-unfolding clock decoder right programOf streamsOf descriptorsOf entriesOf
+unfolding tick decoder right programOf streamsOf descriptorsOf entriesOf
 pmt-none = refl

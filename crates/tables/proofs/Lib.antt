@@ -1,14 +1,11 @@
 pub mod Examples
-pub mod Parts
 pub mod Loop
 pub mod Entries
 pub mod Steps
-pub mod Above
-pub mod Carried
 pub mod Programs
-pub mod Fine
+pub mod PassedShared
 pub mod Body
-pub mod Stand
+pub mod Placement
 pub mod Seek
 pub mod Placed
 pub mod Answers

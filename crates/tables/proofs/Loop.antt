@@ -1,44 +1,21 @@
--- The laws of descriptors, one for each kind of start that a loop's bytes can have: a bound on their number that is at least the number of bytes changes nothing.
+-- The laws of descriptors, one for each kind of start that a loop's bytes can have.
 -- Assumes nothing.
-use mathlib.Core.Path.{_≡_, refl, _∙_, ap}
-use mathlib.Core.Bool.{true, cond}
-use mathlib.Core.List.{List, [], _∷_}
-use Prim.Native.Nat.{ℕ, zero, suc, _+_, _-_, _≤_, _<_}
-use native.Mathlib.Nat.{not-suc-le-zero, le-refl}
+use mathlib.Core.Path.{_≡_, refl, sym, _∙_, ap}
+use mathlib.Core.List.{List}
+use Prim.Native.Nat.{ℕ, _+_, _-_, _≤_, _<_}
+use native.Mathlib.Nat.{add-assoc}
 use native.Mathlib.Omega.{arith}
 use borrow.Author.Tests.{le-leb, lt-leb}
-use lib.Dec.{leb}
-use lib.ListN.{length, getD, take, drop, length-drop}
+use lib.ListN.{length, getD, take}
 use lib.Seq.{slice, slice-empty, length-slice}
-use Rattle.tables.specs.Loop.{Loop, unfilled, onto, Descriptor, descriptorsUpTo, descriptorsOf}
-use Rattle.tables.proofs.Parts.{drop-slice, slice-one, slice-two}
-
--- any two bounds that are at least the number of bytes give the same
-same-descriptors : (m k at : ℕ) (bytes : List ℕ) → length bytes ≤ m → length bytes ≤ k → descriptorsUpTo m at bytes ≡ descriptorsUpTo k at bytes
-same-descriptors zero zero at bytes h l = refl
-same-descriptors zero (suc k) at [] h l = refl
-same-descriptors zero (suc k) at (x ∷ xs) h l = absurd (not-suc-le-zero h)
-same-descriptors (suc m) zero at [] h l = refl
-same-descriptors (suc m) zero at (x ∷ xs) h l = absurd (not-suc-le-zero l)
-same-descriptors (suc m) (suc k) at [] h l = refl
-same-descriptors (suc m) (suc k) at (tag ∷ []) h l = refl
-same-descriptors (suc m) (suc k) at (tag ∷ (n ∷ rest)) h l =
-    let e = length-drop n rest in
-    ap (λ (x : Loop Descriptor). cond (leb n (length rest)) (onto (record { at = at; tag = tag; bytes = take n rest }) x) unfilled)
-    (same-descriptors m k (at + 2 + n) (drop n rest) (omega arith) (omega arith))
-
-descriptor-cons : (at tag n : ℕ) (rest : List ℕ) → n ≤ length rest
-    → descriptorsOf at (tag ∷ (n ∷ rest)) ≡ onto (record { at = at; tag = tag; bytes = take n rest }) (descriptorsOf (at + 2 + n) (drop n rest))
-unfolding descriptorsOf
-descriptor-cons at tag n rest h =
-    let e = length-drop n rest in
-    rw (le-leb n (length rest) h)
-    (ap (onto (record { at = at; tag = tag; bytes = take n rest }))
-    (same-descriptors (suc (length rest)) (length (drop n rest)) (at + 2 + n) (drop n rest) (omega arith) (le-refl (length (drop n rest)))))
+use Rattle.ground.specs.Items.{takes, itemsFrom}
+use Rattle.ground.proofs.Items.{items-on}
+use Rattle.ground.proofs.Part.{drop-slice, slice-one, slice-two}
+use Rattle.tables.specs.Loop.{filled, unfilled, onto, Descriptor, firstDescriptor, descriptorsOf}
 
 -- ---- descriptors of a part of a list
 module _ (b : List ℕ) (at stop : ℕ) (k : stop ≤ length b) where
-  pub no-descriptors : at ≡ stop → descriptorsOf at (slice at stop b) ≡ record { fills = true; items = [] }
+  pub no-descriptors : at ≡ stop → descriptorsOf at (slice at stop b) ≡ filled
   unfolding descriptorsOf
   no-descriptors e = rw (e, slice-empty stop b) refl
 
@@ -58,9 +35,12 @@ module _ (b : List ℕ) (at stop : ℕ) (k : stop ≤ length b) where
         → descriptorsOf at (slice at stop b)
         ≡ onto (record { at = at; tag = getD b at 0; bytes = take (getD b (at + 1) 0) (slice (at + 2) stop b) })
         (descriptorsOf (at + 2 + getD b (at + 1) 0) (slice (at + 2 + getD b (at + 1) 0) stop b))
+    unfolding descriptorsOf
     descriptor l =
         let n = getD b (at + 1) 0 in
-        ap (descriptorsOf at) (slice-two at stop b 0 h k)
-        ∙ descriptor-cons at (getD b at 0) n (slice (at + 2) stop b) (omega (arith, left))
-        ∙ ap (λ (x : List ℕ). onto (record { at = at; tag = getD b at 0; bytes = take n (slice (at + 2) stop b) }) (descriptorsOf (at + 2 + n) x))
-        (drop-slice n (at + 2) stop b)
+        let d : Descriptor = record { at = at; tag = getD b at 0; bytes = take n (slice (at + 2) stop b) } in
+        let step : firstDescriptor at (slice at stop b) ≡ takes (2 + n) d = rw (slice-two at stop b 0 h k, left, le-leb n (stop - (at + 2)) l) refl in
+        let size = length-slice at stop b k in
+        items-on onto firstDescriptor filled at (slice at stop b) (2 + n) d (omega arith) (omega arith) step
+        ∙ ap (λ (r : List ℕ). onto d (itemsFrom onto firstDescriptor filled (at + (2 + n)) r)) (drop-slice (2 + n) at stop b)
+        ∙ ap (λ (m : ℕ). onto d (itemsFrom onto firstDescriptor filled m (slice m stop b))) (sym (add-assoc at 2 n))

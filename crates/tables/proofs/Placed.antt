@@ -1,29 +1,26 @@
 -- In a PMT section that passes, every entry and descriptor stands in the section where it says it does, and so does the part that an answer names.
 -- Assumes nothing.
-use mathlib.Core.Path.{_≡_, sym}
+use mathlib.Core.Path.{_≡_, sym, _∙_, ap}
 use mathlib.Core.Bool.{true, false}
-use mathlib.Core.List.{List, [], _∷_, map}
+use mathlib.Core.List.{List, [], _∷_, _++_, append-assoc, map}
 use Prim.Native.Nat.{ℕ, zero, suc, _+_, _-_, _≤_, _<_}
 use native.Mathlib.Nat.{add-zero, le-of-eq}
 use native.Mathlib.Omega.{arith}
 use borrow.Author.Tests.{leb-false}
-use lib.ListN.{length, getD, take, drop}
-use lib.Seq.{length-take-le}
-use Rattle.rules.specs.Answer.{Answer, refused, given}
-use Rattle.rules.specs.Refusal.{Row, Silent, _when_}
-use Rattle.rules.specs.Walk.{Every}
-use Rattle.rules.proofs.Judged.{given-by, judge-ind}
-use Rattle.rules.proofs.Walk.{every-at, every-of}
+use lib.ListN.{length, getD, take, drop, take-append-drop}
+use lib.Seq.{slice, length-take-le, drop-append-le}
+use Rattle.ground.specs.Answer.{Answer, refused, given}
+use Rattle.ground.specs.Refusal.{Row, Silent, _when_}
+use Rattle.ground.specs.Walk.{Every}
+use Rattle.ground.proofs.Judged.{given-by, judge-ind}
+use Rattle.ground.proofs.Walk.{every-at, every-of}
+use Rattle.ground.proofs.Refusal.{silent-both}
+use Rattle.ground.proofs.Part.{slice-take}
 use Rattle.tables.specs.Answers.{DescriptorPlace}
-use Rattle.tables.specs.Loop.{Descriptor, Entry}
+use Rattle.tables.specs.Loop.{Entry}
 use Rattle.tables.specs.Pmt.{bodyOf, infoLength, programOf, streamsOf, noEntry, pmtRefusals, loopAt, noDescriptor, descriptorAt, placeOf, descriptorMissing, descriptorRefusals, descriptorIn, startOf, sizeOf}
-use Rattle.tables.proofs.Carried.{silent-left, silent-right}
-use Rattle.tables.proofs.Fine.{PmtPassed, pmt-passed}
-use Rattle.tables.proofs.Stand.{Stands, EntryStands, descriptors-stand, entries-stand, stands-still}
-
-every-map : {A : Type 0} (P Q : A → Type 0) → ((a : A) → P a → Q a) → (l : List A) → Every P l → Every Q l
-every-map P Q f [] e = tt
-every-map P Q f (x ∷ xs) e = (f x (e .0), every-map P Q f xs (e .1))
+use Rattle.tables.proofs.PassedShared.{PmtPassed, pmt-passed}
+use Rattle.tables.proofs.Placement.{Stands, EntryStands, descriptors-stand, entries-stand}
 
 module _ (s : List ℕ) (p : PmtPassed s) where
   pub size : 16 ≤ length s
@@ -35,24 +32,30 @@ module _ (s : List ℕ) (p : PmtPassed s) where
   pub room : 12 + infoLength s ≤ length (bodyOf s)
   room = let f = p .fixed .fits in omega (arith, size, body)
 
-  keep : (d : Descriptor) → Stands (bodyOf s) d → Stands s d
-  keep d st = stands-still (length s - 4) s d (omega (arith, size)) st
+  -- the section goes on with the rest of the body, and CRC_32 follows
+  goes-on : (i : ℕ) → i ≤ length (bodyOf s) → drop i s ≡ drop i (bodyOf s) ++ drop (length s - 4) s
+  goes-on i h = ap (drop i) (sym (take-append-drop (length s - 4) s)) ∙ drop-append-le i (bodyOf s) (drop (length s - 4) s) h
 
+  -- every descriptor of every loop stands in the section
   program-stands : Every (Stands s) (programOf s .items)
   unfolding programOf
   program-stands =
-      every-map (Stands (bodyOf s)) (Stands s) keep (programOf s .items)
-      (descriptors-stand (bodyOf s) (12 + infoLength s) room 12 (omega arith))
+      let b = bodyOf s in
+      let k = infoLength s in
+      let crc = drop (length s - 4) s in
+      descriptors-stand s 12 (slice 12 (12 + k) b) (drop k (drop 12 b) ++ crc)
+      (goes-on 12 (omega (arith, room))
+      ∙ ap (λ (r : List ℕ). r ++ crc) (sym (take-append-drop k (drop 12 b)))
+      ∙ append-assoc (take k (drop 12 b)) (drop k (drop 12 b)) crc
+      ∙ ap (λ (r : List ℕ). r ++ (drop k (drop 12 b) ++ crc)) (sym (slice-take 12 k b)))
 
-  streams-stand : Every (EntryStands (bodyOf s)) (streamsOf s .items)
+  streams-stand : Every (EntryStands s) (streamsOf s .items)
   unfolding streamsOf
-  streams-stand = entries-stand (bodyOf s) (12 + infoLength s) room
+  streams-stand = entries-stand s (12 + infoLength s) (drop (12 + infoLength s) (bodyOf s)) (drop (length s - 4) s) (goes-on (12 + infoLength s) room)
 
-  -- every descriptor of every loop stands in the section
-  loops-stand : (es : List Entry) → Every (EntryStands (bodyOf s)) es
-      → (i : ℕ) → Every (Stands s) (getD (map (λ (e : Entry). e .descriptors) es) i [])
+  loops-stand : (es : List Entry) → Every (EntryStands s) es → (i : ℕ) → Every (Stands s) (getD (map (λ (e : Entry). e .descriptors) es) i [])
   loops-stand [] q i = tt
-  loops-stand (e ∷ es) q zero = every-map (Stands (bodyOf s)) (Stands s) keep (e .descriptors) (q .0 .descriptors)
+  loops-stand (e ∷ es) q zero = q .0 .descriptors
   loops-stand (e ∷ es) q (suc i) = loops-stand es (q .1) i
 
   loop-stands : (number : ℕ) → Every (Stands s) (loopAt s number)
@@ -62,15 +65,15 @@ module _ (s : List ℕ) (p : PmtPassed s) where
   pub descriptor-stands : (number i : ℕ) → i < length (loopAt s number) → Stands s (descriptorAt s number i)
   descriptor-stands number i h = every-at (Stands s) (loopAt s number) noDescriptor (loop-stands number) i h
 
-  pub entry-stands : (i : ℕ) → i < length (streamsOf s .items) → EntryStands (bodyOf s) (getD (streamsOf s .items) i noEntry)
-  entry-stands i h = every-at (EntryStands (bodyOf s)) (streamsOf s .items) noEntry streams-stand i h
+  pub entry-stands : (i : ℕ) → i < length (streamsOf s .items) → EntryStands s (getD (streamsOf s .items) i noEntry)
+  entry-stands i h = every-at (EntryStands s) (streamsOf s .items) noEntry streams-stand i h
 
 -- ---- the part that the answer for a descriptor names
 module _ (s : List ℕ) (number i : ℕ) where
   given-stands : Silent (descriptorRefusals s number i) → Stands s (descriptorAt s number i)
   given-stands q =
-      descriptor-stands s (pmt-passed s (silent-left (pmtRefusals s) (descriptorMissing s number i) q)) number i
-      (leb-false (length (loopAt s number)) i (silent-right (pmtRefusals s) (descriptorMissing s number i) q .1 .0))
+      descriptor-stands s (pmt-passed s (silent-both (pmtRefusals s) (descriptorMissing s number i) q .0)) number i
+      (leb-false (length (loopAt s number)) i (silent-both (pmtRefusals s) (descriptorMissing s number i) q .1 .1 .0))
 
   -- it lies inside the section: a refusal's is empty, at the end
   pub part-inside : startOf s (descriptorIn s number i) + sizeOf (descriptorIn s number i) ≤ length s

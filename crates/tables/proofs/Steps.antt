@@ -7,7 +7,7 @@ use Prim.Native.Nat.{ℕ, zero, suc, _+_, _-_, _/_, _%_, _≤_, _<_}
 use native.Mathlib.Nat.{not-suc-le-zero}
 use lib.ListN.{length, getD, take, drop}
 use lib.Seq.{slice}
-use Rattle.rules.specs.Answer.{Answer, refused, given}
+use Rattle.ground.specs.Answer.{Answer, refused, given}
 use Rattle.tables.specs.Loop.{Loop, unfilled, onto, Descriptor, Entry, descriptorsOf, entriesOf}
 use Rattle.tables.specs.Steps.Walk.{Met, Found, met, toldWalk, begun, passed, seekIn, seek, walkEntries, walkDescriptors}
 use Rattle.tables.proofs.Loop.{no-descriptors, lone-byte, overrun, descriptor}

@@ -1,7 +1,7 @@
 -- What each public call's answer says in document 01's terms: "A refusal gives its number alone", any other answer has named values. The values of a variant stand in the order in which the code declares them.
 use mathlib.Core.Bool.{Bool}
 use Prim.Native.Nat.{ℕ}
-use Rattle.rules.specs.Answer.{Answer, refused, given}
+use Rattle.ground.specs.Answer.{Answer, refused, given}
 use Rattle.tables.specs.declared.shared.Head.{Head}
 use Rattle.tables.specs.declared.pat.PatHeader.{PatHeader}
 use Rattle.tables.specs.declared.pat.PatHeader.the-variants as pat-header

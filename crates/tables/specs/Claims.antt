@@ -3,10 +3,10 @@ use mathlib.Core.Path.{_≡_}
 use mathlib.Core.List.{List, [], _∷_, _++_}
 use Prim.Native.Nat.{ℕ, _+_, _≤_}
 use lib.ListN.{length, take, drop}
-use Rattle.rules.specs.Answer.{given}
-use Rattle.rules.specs.Lent.{Lent}
-use Rattle.rules.specs.Outcome.{Determined}
-use Rattle.rules.specs.Refusal.{Exact}
+use Rattle.ground.specs.Answer.{given}
+use Rattle.ground.specs.Lent.{Lent}
+use Rattle.ground.specs.Outcome.{Determined}
+use Rattle.ground.specs.Refusal.{Exact}
 use Rattle.tables.specs.Answers.{PatHeading, PmtHeading, DescriptorPlace}
 use Rattle.tables.specs.Section.{before}
 use Rattle.tables.specs.Loop.{Descriptor, Entry}

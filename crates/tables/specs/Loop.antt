@@ -1,16 +1,21 @@
 -- The loops of a section: entries of a PAT, descriptors, and entries of a PMT with their descriptors (document 01, Tables).
 use mathlib.Core.Bool.{Bool, true, false, cond, _&&_}
 use mathlib.Core.List.{List, [], _∷_}
-use Prim.Native.Nat.{ℕ, zero, suc, _+_}
+use Prim.Native.Nat.{ℕ, _+_}
 use lib.Dec.{leb, eqb}
 use lib.ListN.{length, take, drop}
-use Rattle.rules.specs.Number.{bits}
+use Rattle.ground.specs.Items.{Step, takes, ends, itemsFrom}
+use Rattle.ground.specs.Number.{bits}
 use Rattle.tables.specs.Section.{wordAt}
 
 -- What a loop's bytes hold, and whether its items fill it exactly
 pub record Loop (A : Type 0) : Type 0 where
   pub fills : Bool
   pub items : List A
+
+-- A loop that is filled, with no item
+abbrev pub filled : {A : Type 0} → Loop A
+filled = record { fills = true; items = [] }
 
 -- A loop whose items do not fill it
 abbrev pub unfilled : {A : Type 0} → Loop A
@@ -22,7 +27,7 @@ onto a l = record { fills = l .fills; items = a ∷ l .items }
 
 -- "four bytes an entry": the four bytes of each
 abbrev pub foursOf : List ℕ → Loop (List ℕ)
-foursOf [] = record { fills = true; items = [] }
+foursOf [] = filled
 foursOf (a ∷ []) = unfilled
 foursOf (a ∷ b ∷ []) = unfilled
 foursOf (a ∷ b ∷ c ∷ []) = unfilled
@@ -34,19 +39,16 @@ pub record Descriptor : Type 0 where
   pub tag : ℕ
   pub bytes : List ℕ
 
--- "Descriptors are tag, length, bytes, and fill their loop exactly": those from the place `at` on, at most `most` of them
-abbrev pub descriptorsUpTo : ℕ → ℕ → List ℕ → Loop Descriptor
-descriptorsUpTo zero at bytes = record { fills = eqb (length bytes) 0; items = [] }
-descriptorsUpTo (suc most) at [] = record { fills = true; items = [] }
-descriptorsUpTo (suc most) at (tag ∷ []) = unfilled
-descriptorsUpTo (suc most) at (tag ∷ n ∷ rest) =
-    cond (leb n (length rest))
-    (onto (record { at = at; tag = tag; bytes = take n rest }) (descriptorsUpTo most (at + 2 + n) (drop n rest)))
-    unfilled
+-- "Descriptors are tag, length, bytes, and fill their loop exactly": the one that stands first in bytes that start at the place `at`
+abbrev pub firstDescriptor : ℕ → List ℕ → Step Descriptor (Loop Descriptor)
+firstDescriptor at [] = ends filled
+firstDescriptor at (tag ∷ []) = ends unfilled
+firstDescriptor at (tag ∷ n ∷ rest) =
+    cond (leb n (length rest)) (takes (2 + n) (record { at = at; tag = tag; bytes = take n rest })) (ends unfilled)
 
--- The descriptors of a loop whose bytes start at the place `at`: there cannot be more of them than bytes
+-- The descriptors of a loop whose bytes start at the place `at`, one after the other
 unfoldable pub descriptorsOf : ℕ → List ℕ → Loop Descriptor
-descriptorsOf at bytes = descriptorsUpTo (length bytes) at bytes
+descriptorsOf at bytes = itemsFrom onto firstDescriptor filled at bytes
 
 -- An entry of a PMT: its place in the section, its five bytes before its descriptors, and these
 pub record Entry : Type 0 where
@@ -58,20 +60,16 @@ pub record Entry : Type 0 where
 abbrev pub fits : ℕ → ℕ → Bool
 fits word left = eqb (bits word 10 2) 0 && leb (bits word 0 12) left
 
--- "An entry is followed by its descriptors, and these by the next entry, until the section's own length is used up exactly"
-abbrev pub entriesUpTo : ℕ → ℕ → List ℕ → Loop Entry
-entriesUpTo zero at bytes = record { fills = eqb (length bytes) 0; items = [] }
-entriesUpTo (suc most) at [] = record { fills = true; items = [] }
-entriesUpTo (suc most) at (x ∷ xs) =
-    let bytes = x ∷ xs in
+-- "An entry is followed by its descriptors, and these by the next entry, until the section's own length is used up exactly": the entry that stands first in bytes that start at the place `at`
+abbrev pub firstEntry : ℕ → List ℕ → Step Entry (Loop Entry)
+firstEntry at bytes =
     let word = wordAt bytes 3 in
     let n = bits word 0 12 in
     let own = descriptorsOf (at + 5) (take n (drop 5 bytes)) in
-    let others = entriesUpTo most (at + 5 + n) (drop n (drop 5 bytes)) in
     cond (leb 5 (length bytes) && (fits word (length (drop 5 bytes)) && own .fills))
-    (onto (record { at = at; lead = take 5 bytes; descriptors = own .items }) others)
-    unfilled
+    (takes (5 + n) (record { at = at; lead = take 5 bytes; descriptors = own .items }))
+    (ends unfilled)
 
--- The entries whose bytes start at the place `at`: there cannot be more of them than bytes
+-- The entries whose bytes start at the place `at`, one after the other
 unfoldable pub entriesOf : ℕ → List ℕ → Loop Entry
-entriesOf at bytes = entriesUpTo (length bytes) at bytes
+entriesOf at bytes = itemsFrom onto firstEntry filled at bytes

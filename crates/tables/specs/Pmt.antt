@@ -2,16 +2,16 @@
 use mathlib.Core.Bool.{not, _&&_}
 use mathlib.Core.List.{List, [], _∷_, _++_, map}
 use Prim.Native.Nat.{ℕ, _+_, _-_}
-use lib.Dec.{leb, eqb}
+use lib.Dec.{ltb, leb, eqb}
 use lib.ListN.{length, getD, take, drop}
 use lib.Seq.{slice}
-use Rattle.rules.specs.Answer.{Answer, refused, given}
-use Rattle.rules.specs.Lent.{Lent, part}
-use Rattle.rules.specs.Number.{bits}
-use Rattle.rules.specs.Refusal.{Row, judge, _when_}
+use Rattle.ground.specs.Answer.{Answer, refused, given}
+use Rattle.ground.specs.Lent.{Lent, part}
+use Rattle.ground.specs.Number.{bits}
+use Rattle.ground.specs.Refusal.{Row, judge, _when_}
 use Rattle.tables.specs.Answers.{PmtHeading, ElementaryStream, DescriptorPlace}
 use Rattle.tables.specs.Section.{byteAt, wordAt, headingOf, pidField}
-use Rattle.tables.specs.Refusals.{above, shared}
+use Rattle.tables.specs.Refusals.{shared}
 use Rattle.tables.specs.Loop.{Loop, Descriptor, Entry, descriptorsOf, entriesOf}
 
 -- The section up to CRC_32
@@ -37,7 +37,7 @@ pmtOwn s =
     (24 when not (eqb (byteAt s 6) 0)) ∷
     (24 when not (eqb (byteAt s 7) 0)) ∷
     (26 when not (eqb (bits (wordAt s 10) 10 2) 0)) ∷
-    (26 when above (infoLength s) (length s - 16)) ∷
+    (26 when ltb (length s - 16) (infoLength s)) ∷
     []
 
 -- Refusal 26 of the loops: the same of each ES_info_length, "or entries or descriptors don't fill their loop"

@@ -2,7 +2,7 @@
 use mathlib.Core.Path.{_≡_}
 use mathlib.Core.List.{List}
 use Prim.Native.Nat.{ℕ, _+_}
-use Rattle.rules.specs.Lent.{Lent}
+use Rattle.ground.specs.Lent.{Lent}
 use Rattle.tables.specs.Answers.{toldPatHeader, toldPatEntry, toldPmtHeader, toldPmtEntry, toldPmtDescriptor}
 use Rattle.tables.specs.Pat.{patHeaderOf, patEntryOf}
 use Rattle.tables.specs.Pmt.{pmtHeaderOf, pmtEntryOf, descriptorIn, partOf}

@@ -1,10 +1,9 @@
 -- The fields of a section (document 01, Tables; H.222.0 2.4.4), each by its place.
 use mathlib.Core.List.{List, [], _∷_}
 use Prim.Native.Nat.{ℕ, _+_, _-_}
-use lib.Dec.{eqb}
 use lib.ListN.{getD, length}
 use lib.Seq.{slice}
-use Rattle.rules.specs.Number.{numberOf, bits}
+use Rattle.ground.specs.Number.{numberOf, bits, isFlagged}
 use Rattle.tables.specs.Answers.{Heading}
 
 -- The byte at a place
@@ -36,7 +35,7 @@ abbrev pub headingOf : List ℕ → Heading
 headingOf s = record {
   id = wordAt s 3;
   version = bits (byteAt s 5) 1 5;
-  current = eqb (bits (byteAt s 5) 0 1) 1;
+  current = isFlagged (byteAt s 5) 0;
   sectionNumber = byteAt s 6;
   lastNumber = byteAt s 7;
 }

@@ -3,11 +3,15 @@ use crate::shared::Head;
 use crate::shared::Judged;
 use crate::shared::judge_shared;
 use crate::shared::read_head;
-use crate::shared::word;
+use octets::number_of_two;
 use pid::Pid;
 ghost use mathlib.Core.Path.{_≡_};
-ghost use Rattle.tables.specs.Pat.{patRefusals};
+ghost use Prim.Native.Nat.{_≤_};
+ghost use lib.ListN.{length};
+ghost use Rattle.tables.specs.Answers.{toldPatEntry};
+ghost use Rattle.tables.specs.Pat.{patOwn, patRefusals};
 ghost use Rattle.tables.specs.Promises.{ReadsPatHeader, ReadsPatEntry};
+ghost use Rattle.tables.specs.Steps.Arms.{patEntryIn};
 ghost use Rattle.tables.specs.Steps.Judging.{toldJudged, verdictOf};
 
 // An entry: a program and its PID.
@@ -26,6 +30,20 @@ pub enum PatEntry {
     Refused(u8),
 }
 
+// Judges a section that has room for CRC_32 behind its header by what is a PAT's own.
+fn judge_pat_own(s: &[u8]) -> Judged
+    requires { ⌜ 12 ≤ length (now s) ⌝ }
+    ensures { λ r. ⌜ toldJudged r ≡ verdictOf (patOwn (now (s .entry))) ⌝ }
+{
+    if s[7] < s[6] {
+        return Judged::Refused(24);
+    }
+    if (s.len() - 12) % 4 != 0 {
+        return Judged::Refused(26);
+    }
+    Judged::Fine
+}
+
 // Judges a section asked for as a PAT.
 fn judge_pat(s: &[u8]) -> Judged
     ensures { λ r. ⌜ toldJudged r ≡ verdictOf (patRefusals (now (s .entry))) ⌝ }
@@ -33,15 +51,7 @@ fn judge_pat(s: &[u8]) -> Judged
     let shared = judge_shared(s, 0, 9);
     match shared {
         Judged::Refused(n) => Judged::Refused(n),
-        Judged::Fine => {
-            if s[7] < s[6] {
-                return Judged::Refused(24);
-            }
-            if (s.len() - 12) % 4 != 0 {
-                return Judged::Refused(26);
-            }
-            Judged::Fine
-        }
+        Judged::Fine => judge_pat_own(s),
     }
 }
 
@@ -59,6 +69,21 @@ pub fn pat_header(section: &[u8]) -> PatHeader
     }
 }
 
+// The entry with an index of a PAT that is not refused.
+fn entry_of(section: &[u8], index: u16) -> PatEntry
+    requires { ⌜ 12 ≤ length (now section) ⌝ }
+    ensures { λ r. ⌜ toldPatEntry r ≡ patEntryIn (now (section .entry)) index ⌝ }
+{
+    let i = index as usize;
+    if (section.len() - 12) / 4 <= i {
+        return PatEntry::Refused(27);
+    }
+    let at = 8 + 4 * i;
+    let number = number_of_two(section[at], section[at + 1]);
+    let pid = Pid(number_of_two(section[at + 2], section[at + 3]) % 8192);
+    PatEntry::Entry(Program { number, pid })
+}
+
 // The entry with an index of a section asked for as a PAT.
 pub fn pat_entry(section: &[u8], index: u16) -> PatEntry
     ensures { λ r. ⌜ ReadsPatEntry (now (section .entry)) index r ⌝ }
@@ -66,15 +91,6 @@ pub fn pat_entry(section: &[u8], index: u16) -> PatEntry
     let verdict = judge_pat(section);
     match verdict {
         Judged::Refused(n) => PatEntry::Refused(n),
-        Judged::Fine => {
-            let i = index as usize;
-            if (section.len() - 12) / 4 <= i {
-                return PatEntry::Refused(27);
-            }
-            let at = 8 + 4 * i;
-            let number = word(section[at], section[at + 1]);
-            let pid = Pid(word(section[at + 2], section[at + 3]) % 8192);
-            PatEntry::Entry(Program { number, pid })
-        }
+        Judged::Fine => entry_of(section, index),
     }
 }

@@ -3,17 +3,18 @@ use crate::shared::Head;
 use crate::shared::Judged;
 use crate::shared::judge_shared;
 use crate::shared::read_head;
-use crate::shared::word;
 use crate::walk::descriptors;
+use octets::number_of_two;
 use pid::Pid;
 ghost use mathlib.Core.Path.{_≡_};
 ghost use mathlib.Core.List.{_++_};
-ghost use Prim.Native.Nat.{_+_, _≤_};
+ghost use Prim.Native.Nat.{_+_, _-_, _≤_};
 ghost use lib.ListN.{length};
-ghost use Rattle.rules.specs.Lent.{lent};
-ghost use Rattle.tables.specs.Answers.{toldPmtDescriptor};
+ghost use Rattle.ground.specs.Answer.{given};
+ghost use Rattle.ground.specs.Lent.{lent};
+ghost use Rattle.tables.specs.Answers.{toldPmtHeader, toldPmtEntry, toldPmtDescriptor};
 ghost use Rattle.tables.specs.Refusals.{shared};
-ghost use Rattle.tables.specs.Pmt.{pmtOwn, descriptorIn, startOf, sizeOf, partOf};
+ghost use Rattle.tables.specs.Pmt.{infoLength, pmtOwn, descriptorIn, startOf, sizeOf, partOf};
 ghost use Rattle.tables.specs.Promises.{
   ReadsPmtHeader,
   ReadsPmtEntry,
@@ -22,8 +23,9 @@ ghost use Rattle.tables.specs.Promises.{
   GivesProgramDescriptorBytes,
   GivesEntryDescriptorBytes,
 };
+ghost use Rattle.tables.specs.Steps.Arms.{pmtHeadingAt, streamAt, descriptorPlaceAt};
 ghost use Rattle.tables.specs.Steps.Judging.{toldJudged, verdictOf};
-ghost use Rattle.tables.specs.Steps.Walk.{toldWalked, pmtWalkedOf};
+ghost use Rattle.tables.specs.Steps.Walk.{toldWalk, toldWalked, bodyWalkedOf, pmtWalkedOf};
 
 // An entry: an elementary stream's type, its PID and how many descriptors it has.
 pub struct Stream {
@@ -69,6 +71,27 @@ enum Walked {
     Refused(u8),
 }
 
+// Judges a section that has room for CRC_32 behind its header by what is a PMT's own, but for its loops.
+fn judge_pmt_own(s: &[u8]) -> Judged
+    requires { ⌜ 16 ≤ length (now s) ⌝ }
+    ensures { λ r. ⌜ toldJudged r ≡ verdictOf (pmtOwn (now (s .entry))) ⌝ }
+{
+    if s[6] != 0 {
+        return Judged::Refused(24);
+    }
+    if s[7] != 0 {
+        return Judged::Refused(24);
+    }
+    let w = number_of_two(s[10], s[11]);
+    if w / 1024 % 4 != 0 {
+        return Judged::Refused(26);
+    }
+    if s.len() - 16 < (w % 4096) as usize {
+        return Judged::Refused(26);
+    }
+    Judged::Fine
+}
+
 // Judges a section asked for as a PMT by all but its loops.
 fn judge_pmt(s: &[u8]) -> Judged
     ensures { λ r. ⌜ toldJudged r ≡ verdictOf (shared 2 13 (now (s .entry)) ++ pmtOwn (now (s .entry))) ⌝ }
@@ -76,23 +99,19 @@ fn judge_pmt(s: &[u8]) -> Judged
     let shared = judge_shared(s, 2, 13);
     match shared {
         Judged::Refused(n) => Judged::Refused(n),
-        Judged::Fine => {
-            if s[6] != 0 {
-                return Judged::Refused(24);
-            }
-            if s[7] != 0 {
-                return Judged::Refused(24);
-            }
-            let w = word(s[10], s[11]);
-            if w / 1024 % 4 != 0 {
-                return Judged::Refused(26);
-            }
-            if s.len() - 16 < (w % 4096) as usize {
-                return Judged::Refused(26);
-            }
-            Judged::Fine
-        }
+        Judged::Fine => judge_pmt_own(s),
     }
+}
+
+// Walks over the body of a section whose program_info_length fits, and answers as the walkers do.
+fn walk_body(s: &[u8], asked: usize, item: usize, size: &mut usize, place: &mut usize) -> usize
+    requires { ⌜ (16 ≤ length (now s)) × (length (now s) ≤ 1024) × (infoLength (now s) ≤ length (now s) - 16) × (now size ≡ 0) × (now place ≡ 0) ⌝ }
+    ensures { λ r. ⌜ toldWalk r (now (size .exit)) (now (place .exit)) ≡ bodyWalkedOf asked item (now (s .entry)) ⌝ }
+{
+    let n = (number_of_two(s[10], s[11]) % 4096) as usize;
+    let end = s.len() - 4;
+    let body = &s[..end];
+    descriptors(&body, 12, 12 + n, 0, asked, item, size, place)
 }
 
 // Judges a section asked for as a PMT, and finds an item of the loop `asked` for: item 0 is the entry, item i + 1 its descriptor i.
@@ -103,12 +122,9 @@ fn walk_pmt(s: &[u8], asked: usize, item: usize) -> Walked
     match verdict {
         Judged::Refused(n) => Walked::Refused(n),
         Judged::Fine => {
-            let n = (word(s[10], s[11]) % 4096) as usize;
-            let end = s.len() - 4;
-            let body = &s[..end];
             let mut size = 0;
             let mut place = 0;
-            let loops = descriptors(&body, 12, 12 + n, 0, asked, item, &mut size, &mut place);
+            let loops = walk_body(s, asked, item, &mut size, &mut place);
             if loops == 0 {
                 return Walked::Refused(26);
             }
@@ -119,6 +135,20 @@ fn walk_pmt(s: &[u8], asked: usize, item: usize) -> Walked
                 place,
             }
         }
+    }
+}
+
+// The header of a PMT that is not refused and has so many descriptors of its own and so many entries.
+fn header_of(section: &[u8], descriptors: usize, entries: usize) -> PmtHeader
+    requires { ⌜ 10 ≤ length (now section) ⌝ }
+    ensures { λ r. ⌜ toldPmtHeader r ≡ given (pmtHeadingAt (now (section .entry)) descriptors entries) ⌝ }
+{
+    let pcr_pid = Pid(number_of_two(section[8], section[9]) % 8192);
+    PmtHeader::Header {
+        head: read_head(section),
+        pcr_pid,
+        descriptors,
+        entries,
     }
 }
 
@@ -133,17 +163,21 @@ pub fn pmt_header(section: &[u8]) -> PmtHeader
             entries,
             size,
             place: _,
-        } => {
-            let pcr_pid = Pid(word(section[8], section[9]) % 8192);
-            let descriptors = size;
-            PmtHeader::Header {
-                head: read_head(section),
-                pcr_pid,
-                descriptors,
-                entries,
-            }
-        }
+        } => header_of(section, size, entries),
     }
+}
+
+// The entry that stands at a place and has so many descriptors.
+fn entry_at(section: &[u8], place: usize, descriptors: usize) -> PmtEntry
+    requires { ⌜ place + 5 ≤ length (now section) ⌝ }
+    ensures { λ r. ⌜ toldPmtEntry r ≡ given (streamAt (now (section .entry)) place descriptors) ⌝ }
+{
+    let pid = Pid(number_of_two(section[place + 1], section[place + 2]) % 8192);
+    PmtEntry::Entry(Stream {
+        stream_type: section[place],
+        pid,
+        descriptors,
+    })
 }
 
 // The entry with an index of a section asked for as a PMT.
@@ -162,14 +196,21 @@ pub fn pmt_entry(section: &[u8], index: u16) -> PmtEntry
             if entries <= i {
                 return PmtEntry::Refused(27);
             }
-            let pid = Pid(word(section[place + 1], section[place + 2]) % 8192);
-            PmtEntry::Entry(Stream {
-                stream_type: section[place],
-                pid,
-                descriptors: size,
-            })
+            entry_at(section, place, size)
         }
     }
+}
+
+// The descriptor that stands at a place.
+fn descriptor_at(section: &[u8], place: usize) -> PmtDescriptor
+    requires { ⌜ place + 2 ≤ length (now section) ⌝ }
+    ensures { λ r. ⌜ toldPmtDescriptor r ≡ given (descriptorPlaceAt (now (section .entry)) place) ⌝ }
+{
+    PmtDescriptor::Descriptor(Place {
+        tag: section[place],
+        start: place + 2,
+        size: section[place + 1] as usize,
+    })
 }
 
 // The descriptor with an index of the descriptor loop with a number.
@@ -191,11 +232,7 @@ fn descriptor_in(section: &[u8], number: usize, index: u16) -> PmtDescriptor
             if size <= i {
                 return PmtDescriptor::Refused(27);
             }
-            PmtDescriptor::Descriptor(Place {
-                tag: section[place],
-                start: place + 2,
-                size: section[place + 1] as usize,
-            })
+            descriptor_at(section, place)
         }
     }
 }

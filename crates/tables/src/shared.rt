@@ -1,10 +1,12 @@
 // What the first eight bytes of a section say, and the refusals that a PAT and a PMT share.
+use octets::number_of_two;
+use section::LONGEST_LENGTH;
 use section::length_of;
 ghost use mathlib.Core.Path.{_≡_};
 ghost use Prim.Native.Nat.{_≤_};
 ghost use lib.ListN.{length};
 ghost use Rattle.tables.specs.Answers.{toldHead};
-ghost use Rattle.tables.specs.Section.{wordOf, headingOf};
+ghost use Rattle.tables.specs.Section.{headingOf};
 ghost use Rattle.tables.specs.Refusals.{shared};
 ghost use Rattle.tables.specs.Steps.Judging.{toldJudged, verdictOf};
 
@@ -23,19 +25,12 @@ pub(crate) enum Judged {
     Refused(u8),
 }
 
-// Two bytes as a number.
-pub(crate) fn word(high: u8, low: u8) -> u16
-    ensures { λ r. ⌜ r ≡ wordOf high low ⌝ }
-{
-    (high as u16) * 256 + low as u16
-}
-
 // The fields of bytes 3 to 7.
 pub(crate) fn read_head(s: &[u8]) -> Head
     requires { ⌜ 8 ≤ length (now s) ⌝ }
     ensures { λ r. ⌜ toldHead r ≡ headingOf (now (s .entry)) ⌝ }
 {
-    let id = word(s[3], s[4]);
+    let id = number_of_two(s[3], s[4]);
     Head {
         id,
         version: s[5] / 2 % 32,
@@ -54,7 +49,7 @@ pub(crate) fn judge_shared(s: &[u8], table: u8, least: usize) -> Judged
         return Judged::Refused(20);
     }
     let length = length_of(s[1], s[2]);
-    if 4093 < length {
+    if LONGEST_LENGTH < length {
         return Judged::Refused(20);
     }
     if size != 3 + length {

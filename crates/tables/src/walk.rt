@@ -1,6 +1,6 @@
 // The walk over a PMT's body: descriptors, then entries, each followed by its descriptors, until the bytes are used up exactly.
 // Every parameter and answer of a walker is a single number or address, so that the compiler can make each call a jump, and the stack need not grow with the section.
-use crate::shared::word;
+use octets::number_of_two;
 ghost use mathlib.Core.Path.{_≡_};
 ghost use mathlib.Core.Bool.{cond};
 ghost use Prim.Native.Nat.{_<_, _≤_};
@@ -37,7 +37,7 @@ pub(crate) fn entries(
     if left < 5 {
         return 0;
     }
-    let w = word(b[at + 3], b[at + 4]);
+    let w = number_of_two(b[at + 3], b[at + 4]);
     if w / 1024 % 4 != 0 {
         return 0;
     }

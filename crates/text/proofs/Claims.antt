@@ -1,7 +1,7 @@
 -- Each promise is an equation; the rest is said of the definitions by their laws.
 -- Assumes nothing.
-use Rattle.rules.specs.Lent.{part}
-use Rattle.rules.proofs.Outcome.{determined}
+use Rattle.ground.specs.Lent.{part}
+use Rattle.ground.proofs.Outcome.{determined}
 use Rattle.text.specs.Text.{withByte, withBytes, decimalOf}
 use Rattle.text.specs.Claims.{Claims}
 use Rattle.text.proofs.Laws.{is-written, same-size}

@@ -10,7 +10,7 @@ use native.Mathlib.Nat.{le-refl, not-suc-le-zero, le-of-suc-le-suc, mod-eq-of-lt
 use lib.ListN.{length, length-append}
 use lib.Dec.{T, lit<, ltb, ltb→lt, nltb→le}
 use Rattle.io.specs.Digits.{digits, Fewest, glyph}
-use Rattle.rules.proofs.Refusal.{yes<, no<}
+use Rattle.ground.proofs.Refusal.{yes<, no<}
 use Rattle.text.specs.Text.{digitsOf, decimalOf}
 use Rattle.text.specs.Claims.{valueFrom}
 

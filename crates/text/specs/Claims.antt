@@ -3,8 +3,8 @@ use mathlib.Core.Path.{_≡_}
 use mathlib.Core.List.{List, [], _∷_, _++_}
 use Prim.Native.Nat.{ℕ, _+_, _*_, _-_, _^_, _≤_, _<_}
 use lib.ListN.{length}
-use Rattle.rules.specs.Lent.{Lent}
-use Rattle.rules.specs.Outcome.{Determined}
+use Rattle.ground.specs.Lent.{Lent}
+use Rattle.ground.specs.Outcome.{Determined}
 use Rattle.text.specs.Text.{Text, shown, withBytes, decimalOf}
 use Rattle.text.specs.Promises.{WritesByte, WritesWord, WritesDecimal, LendsFirst}
 

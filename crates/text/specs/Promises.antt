@@ -2,7 +2,7 @@
 use mathlib.Core.Path.{_≡_}
 use mathlib.Core.List.{List}
 use Prim.Native.Nat.{ℕ}
-use Rattle.rules.specs.Lent.{Lent, part}
+use Rattle.ground.specs.Lent.{Lent, part}
 use Rattle.text.specs.Text.{Text, withByte, withBytes, decimalOf}
 
 -- `byte`: its outcome is every lent byte after it, and where the text ends then

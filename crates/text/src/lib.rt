@@ -1,5 +1,5 @@
 // Text that a program prints, written piece by piece behind what is already there.
-ghost use Rattle.rules.specs.Lent.{lent};
+ghost use Rattle.ground.specs.Lent.{lent};
 ghost use Rattle.text.specs.Text.{upTo};
 ghost use Rattle.text.specs.Promises.{WritesByte, WritesWord, WritesDecimal, LendsFirst};
 

@@ -1,13 +1,9 @@
-//! The lines whose outcome hangs on the line alone.
+//! The lines that read or write lent bytes and need nothing that is kept.
 
 use super::line::Call;
 use super::outcome::{digest, hexadecimal, optional, refused, told};
 use crate::pes_headers::{read_header, Full, Header, Stamps};
 use crate::refusal_numbers::Refusal;
-use crate::tables::{
-    cyclic_right, inner_descriptor, outer_descriptor, program_entry, read_program_table,
-    read_stream_table, stream_entry, Common, Descriptor,
-};
 use crate::the_packet::{make_pid, read_packet, Part, Reading};
 use crate::time::{apart, forward, read_clock, read_stamp, write_clock, write_stamp};
 
@@ -18,8 +14,6 @@ pub fn answer(call: &Call) -> Option<String> {
     let outcome = match call.word {
         "pid" => told(make_pid(numbers[0]), |pid| pid.to_string()),
         "alone" => alone(bytes),
-        "crc" if cyclic_right(bytes) => String::from("right"),
-        "crc" => String::from("wrong"),
         "pes" => told(read_header(bytes), header),
         "stamp" => told(read_stamp(numbers[0], bytes), |value| value.to_string()),
         "clock" => told(read_clock(bytes), |value| value.to_string()),
@@ -27,50 +21,9 @@ pub fn answer(call: &Call) -> Option<String> {
         "setclock" => written(bytes, |lent| write_clock(numbers[0], lent)),
         "apart" => told(apart(numbers[0], numbers[1]), |value| value.to_string()),
         "forward" => told(forward(numbers[0], numbers[1]), |value| value.to_string()),
-        _ => return table(call),
-    };
-    Some(outcome)
-}
-
-fn table(call: &Call) -> Option<String> {
-    let section = &call.bytes;
-    let index = |which: usize| call.numbers[which] as usize;
-    let outcome = match call.word {
-        "pat" => told(read_program_table(section), |table| {
-            format!("{} {}", common(&table.common), table.entries.len())
-        }),
-        "patitem" => told(program_entry(section, index(0)), |(program, pid)| {
-            format!("{} {}", program, pid)
-        }),
-        "pmt" => told(read_stream_table(section), |table| {
-            let (descriptors, streams) = (table.descriptors.len(), table.streams.len());
-            let common = common(&table.common);
-            format!("{} {} {} {}", common, table.clock_pid, descriptors, streams)
-        }),
-        "pmtitem" => told(stream_entry(section, index(0)), |stream| {
-            let descriptors = stream.descriptors.len();
-            format!("{} {} {}", stream.kind, stream.pid, descriptors)
-        }),
-        "outer" => descriptor(section, outer_descriptor(section, index(0))),
-        "inner" => descriptor(section, inner_descriptor(section, index(0), index(1))),
         _ => return None,
     };
     Some(outcome)
-}
-
-fn common(common: &Common) -> String {
-    format!(
-        "{} {} {} {} {}",
-        common.id, common.version, common.current, common.number, common.last
-    )
-}
-
-fn descriptor(section: &[u8], found: Result<Descriptor, Refusal>) -> String {
-    told(found, |descriptor| {
-        let (start, size) = (descriptor.start, descriptor.size);
-        let digest = digest(&section[start..start + size]);
-        format!("{} {} {} {}", descriptor.tag, start, size, digest)
-    })
 }
 
 fn alone(packet: &[u8]) -> String {

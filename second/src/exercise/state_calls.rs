@@ -1,94 +1,76 @@
-//! The lines that set, tell or change what is kept from line to line.
+//! The lines about a driver: its state, its buffers, open, close and the packet call.
 
+use super::buffers::{changed, write, Buffers};
 use super::line::Call;
-use super::outcome::{changed, digest, state, told};
-use super::Exercise;
-use crate::filters_and_areas::{close, open, Area, Place, State};
+use super::outcome::{digest, told};
+use super::records::{records, set_area, set_place};
+use crate::filters_and_areas::{close, open};
 use crate::from_payload_to_sections::{packet_call, Answer};
+use crate::state::State;
 
 /// The outcome behind the word, or nothing where the word is none of these.
-pub fn answer(exercise: &mut Exercise, call: &Call) -> Option<String> {
+pub fn answer(state: &mut State, buffers: &mut Buffers, call: &Call) -> Option<String> {
     let numbers = &call.numbers;
     let nothing = Some(String::new());
     match call.word {
         "fresh" => {
-            exercise.state = State::fresh();
-            Some(state(&exercise.state))
+            *state = State::fresh();
+            Some(records(state))
         }
         "area" => {
-            exercise.state.areas[numbers[0] as usize] = area(numbers);
+            set_area(state, numbers);
             nothing
         }
         "place" => {
-            exercise.state.places[numbers[0] as usize] = Place {
-                number: numbers[1] as u16,
-                area: numbers[2] as u8,
-            };
+            set_place(state, numbers);
             nothing
         }
         "next" => {
-            exercise.state.next = numbers[0] as u32;
+            state.next = numbers[0] as u32;
             nothing
         }
-        "store" => write(&mut exercise.store, numbers[0], &call.bytes),
-        "output" => write(&mut exercise.output, numbers[0], &call.bytes),
+        "store" => write(&mut buffers.store, numbers[0], &call.bytes),
+        "output" => write(&mut buffers.output, numbers[0], &call.bytes),
         "digest" => Some(format!(
             "{} {}",
-            digest(&exercise.store),
-            digest(&exercise.output)
+            digest(&buffers.store),
+            digest(&buffers.output)
         )),
-        "open" => Some(open_outcome(exercise, numbers[0] as u16)),
-        "close" => Some(close_outcome(exercise, numbers[0] as u16)),
-        "packet" => Some(packet_outcome(exercise, call)),
+        "open" => Some(open_outcome(state, numbers[0] as u16)),
+        "close" => Some(close_outcome(state, numbers[0] as u16)),
+        "packet" => Some(packet_outcome(state, buffers, call)),
         _ => None,
     }
 }
 
-fn area(numbers: &[u64]) -> Area {
-    Area {
-        pid: numbers[1] as u16,
-        users: numbers[2] as u8,
-        held: numbers[3],
-        seen: numbers[4] == 1,
-        counter: numbers[5] as u8,
-    }
-}
-
-fn write(buffer: &mut [u8], at: u64, bytes: &[u8]) -> Option<String> {
-    let at = at as usize;
-    let part = buffer.get_mut(at..at + bytes.len())?;
-    part.copy_from_slice(bytes);
-    Some(String::new())
-}
-
-fn open_outcome(exercise: &mut Exercise, pid: u16) -> String {
-    let result = open(&mut exercise.state, pid);
+fn open_outcome(state: &mut State, pid: u16) -> String {
+    let result = open(state, pid);
     let given = told(result, |(number, place)| {
         format!("given {} {}", number, place)
     });
-    format!("{} {}", given, state(&exercise.state))
+    format!("{} {}", given, records(state))
 }
 
-fn close_outcome(exercise: &mut Exercise, number: u16) -> String {
-    let result = close(&mut exercise.state, number);
+fn close_outcome(state: &mut State, number: u16) -> String {
+    let result = close(state, number);
     let closed = told(result, |()| String::from("closed"));
-    format!("{} {}", closed, state(&exercise.state))
+    format!("{} {}", closed, records(state))
 }
 
-fn packet_outcome(exercise: &mut Exercise, call: &Call) -> String {
-    let (store, output) = (exercise.store.clone(), exercise.output.clone());
+fn packet_outcome(state: &mut State, buffers: &mut Buffers, call: &Call) -> String {
+    let (store, output) = (buffers.store.clone(), buffers.output.clone());
     let result = packet_call(
-        &mut exercise.state,
-        &mut exercise.store[..call.numbers[0] as usize],
-        &mut exercise.output[..call.numbers[1] as usize],
+        state,
+        &mut buffers.store[..call.numbers[0] as usize],
+        &mut buffers.output[..call.numbers[1] as usize],
         &call.bytes,
     );
     format!(
         "{} store {} output {} {}",
         told(result, packet_answer),
-        changed(&store, &exercise.store),
-        changed(&output, &exercise.output),
-        state(&exercise.state)
+        changed(&store, &buffers.store),
+        changed(&output, &buffers.output),
+        records(state)
     )
 }
 

@@ -11,8 +11,6 @@ mod unsound;
 use super::random::Random;
 use super::script::Script;
 
-pub use joints::any_packet;
-
 type Scenario = fn(&mut Random, &mut Script);
 
 /// Each scenario with its weight.

@@ -1,6 +1,6 @@
 //! All filter numbers given, one after the other, until none is left.
 
-use super::driver::any_packet;
+use super::packets::any_packet;
 use super::random::Random;
 use super::script::Script;
 use crate::numbers_of_the_house::LAST_NUMBER;

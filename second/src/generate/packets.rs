@@ -1,10 +1,9 @@
 //! Packets as generators put them together.
 
+use super::payloads::{payload_room, pointed, PAYLOAD_BYTES};
 use super::random::Random;
 use crate::numbers_of_the_house::{PACKET_BYTES, STAMP_TURN};
 use crate::time::write_clock;
-
-pub const PAYLOAD_BYTES: usize = 184;
 
 /// The fields of a packet's header, before anything is damaged.
 #[derive(Clone, Copy)]
@@ -52,6 +51,40 @@ pub fn packet_around(random: &mut Random, head: Head, payload: &[u8]) -> Vec<u8>
     }
     packet.extend(&payload[..size]);
     packet
+}
+
+/// The counter behind the last one, or a repeat, or a jump.
+pub fn counter_after(random: &mut Random, counter: u8) -> u8 {
+    match random.below(12) {
+        0 => counter,
+        1 => counter + 2,
+        2 => counter + random.below(16) as u8,
+        _ => counter + 1,
+    }
+}
+
+/// A packet of the PID with any content.
+pub fn any_packet(random: &mut Random, pid: u16, counter: u8) -> Vec<u8> {
+    let counter = counter_after(random, counter);
+    if random.one_in(20) {
+        let head = Head::new(pid, random.one_in(2), counter);
+        return packet_around(random, head, &[]);
+    }
+    let room = payload_room(random);
+    let unit_start = random.below(3) > 0;
+    let payload = if unit_start {
+        let old = random.below(40);
+        let continuation = random.bytes(old);
+        pointed(random, room, &continuation)
+    } else {
+        random.bytes(room)
+    };
+    let mut head = Head::new(pid, unit_start, counter);
+    head.priority = random.one_in(8);
+    if random.one_in(20) {
+        head.scrambling = random.between(1, 3) as u8;
+    }
+    packet_around(random, head, &payload)
 }
 
 /// An adaptation field that fits, its length byte first.

@@ -1,7 +1,7 @@
 //! The script under way, and how many of its lines are calls.
 
-use crate::filters_and_areas::{Area, State};
 use crate::numbers_of_the_house::STORE_BYTES;
+use crate::state::{Area, State};
 
 #[derive(Default)]
 pub struct Script {

@@ -1,6 +1,5 @@
-//! Sections and the payloads that carry them.
+//! Sections as generators put them together.
 
-use super::packets::PAYLOAD_BYTES;
 use super::random::Random;
 
 /// The three first bytes of a section.
@@ -27,56 +26,5 @@ pub fn section_size(random: &mut Random) -> usize {
         5..=9 => random.between(180, 190),
         10..=14 => random.between(3, 5),
         _ => random.between(3, 80),
-    }
-}
-
-/// A payload with its unit start mark.
-pub struct Load {
-    pub unit_start: bool,
-    pub payload: Vec<u8>,
-}
-
-/// Payloads that carry the sections joined, each start told by a pointer.
-pub fn loads(random: &mut Random, sections: &[Vec<u8>]) -> Vec<Load> {
-    let joined = sections.concat();
-    let mut starts = vec![0];
-    for section in sections {
-        starts.push(starts[starts.len() - 1] + section.len());
-    }
-    starts.pop();
-    let mut loads = Vec::new();
-    let mut at = 0;
-    while at < joined.len() {
-        let room = room(random);
-        let start = starts.iter().copied().find(|start| *start >= at);
-        let pointed = start.filter(|start| *start + 1 < at + room);
-        let mut payload: Vec<u8> = pointed
-            .map(|start| (start - at) as u8)
-            .into_iter()
-            .collect();
-        let mut end = (at + room - payload.len()).min(joined.len());
-        if pointed.is_none() && start.map_or(false, |start| start < end) {
-            end -= 1;
-        }
-        payload.extend(&joined[at..end]);
-        if end == joined.len() && random.one_in(2) {
-            payload.resize(room.max(payload.len()), 0xFF);
-        }
-        at = end;
-        let unit_start = pointed.is_some();
-        loads.push(Load {
-            unit_start,
-            payload,
-        });
-    }
-    loads
-}
-
-/// How many bytes a payload may have: mostly all, and never so few that nothing moves on.
-fn room(random: &mut Random) -> usize {
-    match random.below(12) {
-        0 => random.between(2, PAYLOAD_BYTES),
-        1 => random.between(175, PAYLOAD_BYTES),
-        _ => PAYLOAD_BYTES,
     }
 }

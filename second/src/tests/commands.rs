@@ -57,7 +57,7 @@ fn generated(kind: &str, seed: u64) -> Vec<u8> {
 
 #[test]
 fn scripts_hang_on_kind_and_seed_alone() {
-    for kind in generate::KINDS {
+    for (kind, _) in generate::KINDS {
         assert!(generated(kind, 5) == generated(kind, 5), "{}", kind);
         assert!(generated(kind, 5) != generated(kind, 6), "{}", kind);
     }
@@ -66,7 +66,7 @@ fn scripts_hang_on_kind_and_seed_alone() {
 
 #[test]
 fn only_bad_scripts_have_bad_lines() {
-    for kind in generate::KINDS {
+    for (kind, _) in generate::KINDS {
         let mut output = Vec::new();
         exercise::run(&mut &*generated(kind, 7), &mut output).unwrap();
         let output = String::from_utf8(output).unwrap();

@@ -1,7 +1,8 @@
 //! Open and close.
 
-use crate::filters_and_areas::{close, open, Area, Place, State};
+use crate::filters_and_areas::{close, open};
 use crate::refusal_numbers::Refusal;
+use crate::state::{Area, Place, State};
 use crate::the_packet::make_pid;
 
 #[test]

@@ -1,9 +1,10 @@
 //! The packet call: document 01's examples and the rules around them.
 
 use super::packet;
-use crate::filters_and_areas::{open, State};
+use crate::filters_and_areas::open;
 use crate::from_payload_to_sections::{packet_call, Answer, Wanted};
 use crate::refusal_numbers::Refusal;
+use crate::state::State;
 
 struct Driver {
     state: State,

@@ -1,7 +1,8 @@
 //! The published recordings.
 
-use crate::filters_and_areas::{open, State};
+use crate::filters_and_areas::open;
 use crate::from_payload_to_sections::{packet_call, Answer};
+use crate::state::State;
 
 const RECORDING: &str = concat!(
     env!("CARGO_MANIFEST_DIR"),

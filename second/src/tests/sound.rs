@@ -1,9 +1,10 @@
 //! One test for each clause of soundness.
 
-use crate::filters_and_areas::{close, open, Area, Place, State};
+use crate::filters_and_areas::{close, open};
 use crate::from_payload_to_sections::packet_call;
 use crate::refusal_numbers::Refusal;
 use crate::soundness::{self, sound, Clause, CLAUSES};
+use crate::state::{Area, Place, State};
 
 /// Two PIDs, three filters, and bytes held on the second PID.
 fn right() -> State {

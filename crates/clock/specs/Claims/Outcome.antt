@@ -1,7 +1,7 @@
 -- Document 01, "What the proofs have to say": "any two outcomes it admits are shown equal", of each public call's promise.
 use mathlib.Core.List.{List}
 use Prim.Native.Nat.{ℕ}
-use Rattle.rules.specs.Outcome.{Determined}
+use Rattle.ground.specs.Outcome.{Determined}
 use Rattle.clock.specs.Promises.{ReadsStamp, WritesStamp, TellsApart, ReadsReference, WritesReference, TellsAhead}
 
 pub record Outcomes : Type 0 where

@@ -1,7 +1,7 @@
 -- Document 01, "What the proofs have to say": "the refusal table is exact", of each table about time.
 use mathlib.Core.List.{List}
 use Prim.Native.Nat.{ℕ}
-use Rattle.rules.specs.Refusal.{Row, Exact, ExactCall}
+use Rattle.ground.specs.Refusal.{Row, Exact, ExactCall}
 use Rattle.clock.specs.Written.{Wrote, unwritten}
 use Rattle.clock.specs.Stamp.{stampReadRefusals, readStamp, stampWriteRefusals, writeStamp}
 use Rattle.clock.specs.Reference.{referenceReadRefusals, readReference, referenceWriteRefusals, writeReference}

@@ -2,7 +2,7 @@
 use mathlib.Core.Path.{_≡_}
 use mathlib.Core.List.{List}
 use Prim.Native.Nat.{ℕ}
-use Rattle.rules.specs.Number.{Bytes, numberAt}
+use Rattle.ground.specs.Number.{Bytes, numberAt}
 use Rattle.clock.specs.Reference.{reservedOf}
 use Rattle.clock.specs.Promises.{ReadsStamp, WritesStamp, ReadsReference, WritesReference}
 use Rattle.clock.specs.declared.Written.{Written}

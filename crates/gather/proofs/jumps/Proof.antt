@@ -1,6 +1,6 @@
 -- `jumps` is the test of the counter, seen or not.
 -- Assumes nothing.
-use Rattle.gather.proofs.Accepting.{sound-says, jumps-is}
+use Rattle.gather.proofs.RuleOnMemory.{sound-says, jumps-is}
 use native.Mathlib.Omega.{arith}
 use Rattle.gather.proofs.jumps.Statement.{statement}
 use Rattle.gather.proofs.jumps.Tie as tie

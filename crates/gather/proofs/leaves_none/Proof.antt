@@ -1,6 +1,6 @@
 -- `leaves_none` is its test, where there is a payload.
 -- Assumes nothing.
-use Rattle.rules.proofs.Refusal.{tests}
+use Rattle.ground.proofs.Refusal.{tests}
 use native.Mathlib.Omega.{arith}
 use borrow.Author.Needs.{needs}
 use Rattle.gather.proofs.leaves_none.Statement.{statement}

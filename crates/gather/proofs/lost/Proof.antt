@@ -1,6 +1,6 @@
 -- `lost` is its table of two rows.
 -- Assumes nothing.
-use Rattle.rules.proofs.Refusal.{yes}
+use Rattle.ground.proofs.Refusal.{yes}
 use borrow.Author.Needs.{needs}
 use Rattle.gather.proofs.lost.Statement.{statement}
 use Rattle.gather.proofs.lost.Tie as tie

@@ -1,6 +1,6 @@
 -- `repeats` is the test of the counter, seen or not.
 -- Assumes nothing.
-use Rattle.gather.proofs.Accepting.{repeats-is}
+use Rattle.gather.proofs.RuleOnMemory.{repeats-is}
 use Rattle.gather.proofs.repeats.Statement.{statement}
 use Rattle.gather.proofs.repeats.Tie as tie
 

@@ -1,6 +1,6 @@
 -- `sound` tests what the marks have to be, seen or not.
 -- Assumes nothing.
-use Rattle.rules.proofs.Refusal.{yes, no}
+use Rattle.ground.proofs.Refusal.{yes, no}
 use mathlib.Core.Path.{refl}
 use Rattle.gather.proofs.sound.Statement.{statement}
 use Rattle.gather.proofs.sound.Tie as tie

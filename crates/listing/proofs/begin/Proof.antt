@@ -2,12 +2,12 @@
 -- Assumes nothing.
 use mathlib.Core.Path.{_≡_, refl, sym, _∙_, ap}
 use mathlib.Core.Bool.{true}
-use Rattle.rules.specs.Answer.{given}
-use Rattle.rules.proofs.Answer.{given-apart}
+use Rattle.ground.specs.Answer.{given}
+use Rattle.ground.proofs.Answer.{given-apart}
 use Rattle.driver.specs.State.{fresh}
 use Rattle.driver.specs.Sound.{sound}
 use Rattle.driver.specs.Open.{AfterOpen, openOf, toldOpening}
-use Rattle.driver.specs.declared.State.{State}
+use Rattle.driver.specs.declared.state.State.{State}
 use borrow.Author.Needs.{needs}
 use Rattle.listing.proofs.begin.Statement.{statement}
 use Rattle.listing.proofs.begin.Tie as tie
@@ -30,7 +30,7 @@ enum-told-2 : tie.Need-enum-told-2
 enum-told-2 c = search needs
 
 returns : tie.Need-returns
-returns c = ap (λ (o : AfterOpen). record { turn = record { state = o .state; index = 0; at = 0 }; «is_open» = true }) (c .before .before .before .«open» .ensures ∙ ap (λ (s : State). openOf s 0) (c .before .before .before .before .fresh .ensures))
+returns c = ap (λ (o : AfterOpen). record { progress = record { state = o .state; index = 0; at = 0 }; «is_open» = true }) (c .before .before .before .«open» .ensures ∙ ap (λ (s : State). openOf s 0) (c .before .before .before .before .fresh .ensures))
 
 returns-2 : tie.Need-returns-2
 returns-2 c =

@@ -7,7 +7,7 @@ use denote.Ref.{now}
 use Rattle.packet.specs.Packet.{toldReading, readPacket}
 use Rattle.packet.specs.declared.Reading.{Reading}
 use Rattle.packet.proofs.Accepted.{accepted}
-use Rattle.packet.proofs.Lent.{lent-part}
+use Rattle.ground.proofs.Lent.{lent-part}
 use borrow.Author.Needs.{needs}
 use Rattle.packet.proofs.payload.Statement.{statement}
 use Rattle.packet.proofs.payload.Tie as tie

@@ -3,8 +3,9 @@ use mathlib.Core.Path.{_≡_}
 use mathlib.Core.List.{List}
 use Prim.Native.Nat.{ℕ, _+_, _-_, _^_, _≤_, _<_}
 use lib.ListN.{length, drop}
-use Rattle.rules.specs.Answer.{given}
-use Rattle.rules.specs.Perhaps.{Perhaps, there, absent}
+use Rattle.ground.specs.House.{packetBytes, payloadBytes}
+use Rattle.ground.specs.Answer.{given}
+use Rattle.ground.specs.Perhaps.{Perhaps, there, absent}
 use Rattle.clock.specs.Range.{referenceTurn}
 use Rattle.packet.specs.Adaptation.{Span}
 use Rattle.packet.specs.Packet.{Contents, readPacket}
@@ -21,7 +22,7 @@ InRange clock = (v : ℕ) → clock ≡ there v → v < referenceTurn
 -- of a packet s that reads as p
 pub record Accepted (s : List ℕ) (p : Contents) : Type 0 where
   -- "188-byte transport packets"
-  pub long : length s ≡ 188
+  pub long : length s ≡ packetBytes
   -- "PID (13 bits), scrambling (2), adaptation control (2), continuity counter (4)"
   pub pid : p .pid < 2 ^ 13
   pub scrambling : p .scrambling < 2 ^ 2
@@ -31,7 +32,7 @@ pub record Accepted (s : List ℕ) (p : Contents) : Type 0 where
   pub start : payloadStart s ≡ startAfter (p .field .size)
   pub inside : payloadStart s ≤ length s
   -- "Control 01: payload of 184 bytes"
-  pub whole : p .control ≡ 1 → (p .field .size ≡ absent) × (length (drop (payloadStart s) s) ≡ 184)
+  pub whole : p .control ≡ 1 → (p .field .size ≡ absent) × (length (drop (payloadStart s) s) ≡ payloadBytes)
   -- "Control 10: adaptation length exactly 183, no payload"
   pub none : p .control ≡ 2 → (p .field .size ≡ there 183) × (length (drop (payloadStart s) s) ≡ 0)
   -- "Control 11: length 0 to 182, payload 183 − length bytes"

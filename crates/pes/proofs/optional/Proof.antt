@@ -4,11 +4,11 @@ use mathlib.Core.Path.{_≡_, ap, sym, _∙_}
 use native.Mathlib.Nat.{div-one}
 use native.Mathlib.Omega.{arith}
 use denote.Ref.{now}
-use Rattle.rules.proofs.Refusal.{tests}
+use Rattle.ground.proofs.Refusal.{tests}
 use Rattle.pes.specs.Steps.{toldStamped, readOptional}
 use Rattle.pes.specs.Header.{flagsOf}
 use Rattle.pes.specs.declared.stamps.Stamped.{Stamped}
-use Rattle.rules.proofs.Judged.{mapped}
+use Rattle.ground.proofs.Judged.{mapped}
 use Rattle.pes.proofs.Lengths.{withStamps, after-lengths, fields-fit}
 use borrow.Author.Needs.{needs}
 use Rattle.pes.proofs.optional.Statement.{statement}
@@ -16,12 +16,16 @@ use Rattle.pes.proofs.optional.Tie as tie
 
 -- where the stamps are read, what they make of the header
 reads : (c : tie.After-read) (stamped : Stamped) → c .read .result ≡ stamped
-    → mapped (withStamps (now (c .before .before .before .before .before .before .before .before .before .before .before .before .args .bytes))) (toldStamped stamped) ≡ readOptional (now (c .before .before .before .before .before .before .before .before .before .before .before .before .args .bytes))
+    → let s = now (c .before .before .before .before .before .before .before .before .before .before .before .before .args .bytes) in mapped (withStamps s) (toldStamped stamped) ≡ readOptional s
 reads c stamped e =
-    let s = now (c .before .before .before .before .before .before .before .before .before .before .before .before .args .bytes) in
-    let fit = rw (c .before .before .before .before .fields-size .ensures .0, ← c .before .before .before .before .before .before .before .before .before .before .before .before .pre .1) at (sym (c .before .before .before .is-over .ensures) ∙ c .before .before .if4 .left) in
-    ap (mapped (withStamps s)) (ap toldStamped (sym e) ∙ c .read .ensures)
-    ∙ sym (after-lengths s (c .before .before .before .before .before .before .before .before .before .before .if1 .left) (c .before .before .before .before .before .before .before .before .if2 .left) (c .before .before .before .before .before .before .if3 .left) fit (c .before .if5 .left))
+    let start = c .before .before .before .before .before .before .before .before .before .before .before .before in
+    let s = now (start .args .bytes) in
+    let long = c .before .before .before .before .before .before .before .before .before .before .if1 .left in
+    let mark = c .before .before .before .before .before .before .before .before .if2 .left in
+    let flags = c .before .before .before .before .before .before .if3 .left in
+    let over = sym (c .before .before .before .is-over .ensures) ∙ c .before .before .if4 .left in
+    let fit = rw (c .before .before .before .before .fields-size .ensures .0, ← start .pre .1) at over in
+    ap (mapped (withStamps s)) (ap toldStamped (sym e) ∙ c .read .ensures) ∙ sym (after-lengths s long mark flags fit (c .before .if5 .left))
 
 returns : tie.Need-returns
 returns c = search (tests, arith)
@@ -78,8 +82,9 @@ returns-6 c = reads (c .before .before .before) _ (c .before .stamped .given .1)
 returns-7 : tie.Need-returns-7
 returns-7 c =
     let at = c .before .before .before in
-    let flags = flagsOf (now (at .before .before .before .before .before .before .before .before .before .before .before .before .args .bytes)) in
-    rw (← at .before .before .before .before .before .before .before .before .before .before .before .before .pre .1, ← at .before .before .before .before .before .before .before .before .before .before .before .before .pre .0, div-one flags) (rw (div-one flags) at (reads at _ (c .before .stamped2 .given .1)))
+    let start = at .before .before .before .before .before .before .before .before .before .before .before .before in
+    let flags = flagsOf (now (start .args .bytes)) in
+    rw (← start .pre .1, ← start .pre .0, div-one flags) (rw (div-one flags) at (reads at _ (c .before .stamped2 .given .1)))
 
 pub optional-spec : {M : Type 1} → statement M
 optional-spec =

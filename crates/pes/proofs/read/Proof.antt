@@ -4,8 +4,8 @@ use mathlib.Core.Path.{_≡_, sym, _∙_}
 use mathlib.Core.Bool.{Bool, true, false, cond}
 use native.Mathlib.Omega.{arith}
 use denote.Ref.{now}
-use Rattle.rules.specs.Answer.{given}
-use Rattle.rules.proofs.Refusal.{tests}
+use Rattle.ground.specs.Answer.{given}
+use Rattle.ground.proofs.Refusal.{tests}
 use Rattle.pes.specs.Header.{bare, idOf, packetLengthOf, readHeader}
 use Rattle.pes.specs.Steps.{readOptional}
 use Rattle.pes.proofs.Start.{after-start}
@@ -15,57 +15,58 @@ use Rattle.pes.proofs.read.Tie as tie
 
 -- where the id's form is known, what is left of the header
 reads : (c : tie.After-is-bare) (b : Bool) → c .is-bare .result ≡ b
-    → cond b (given (bare (idOf (now (c .before .before .before .before .before .before .before .before .before .before .before .before .before .before .before .args .bytes))) (packetLengthOf (now (c .before .before .before .before .before .before .before .before .before .before .before .before .before .before .before .args .bytes))))) (readOptional (now (c .before .before .before .before .before .before .before .before .before .before .before .before .before .before .before .args .bytes)))
-    ≡ readHeader (now (c .before .before .before .before .before .before .before .before .before .before .before .before .before .before .before .args .bytes))
+    → let s = now (c .before .before .before .before .before .before .before .before .before .before .before .before .before .before .before .args .bytes) in cond b (given (bare (idOf s) (packetLengthOf s))) (readOptional s) ≡ readHeader s
 reads c b e =
-    let ends = rw (c .before .before .before .length-of .ensures) at (c .before .before .is-endless .ensures) in
-    sym (after-start (now (c .before .before .before .before .before .before .before .before .before .before .before .before .before .before .before .args .bytes)) (c .before .before .before .before .before .before .before .before .before .before .before .before .before .if1 .left) (sym (c .before .before .before .before .before .before .before .before .before .start-of .ensures) ∙ c .before .before .before .before .before .before .before .before .if2 .left) (c .before .before .before .before .before .before .if3 .left)
-    (sym ends ∙ c .before .if4 .left) b (sym (c .is-bare .ensures) ∙ e))
+    let long = c .before .before .before .before .before .before .before .before .before .before .before .before .before .if1 .left in
+    let start = sym (c .before .before .before .before .before .before .before .before .before .number-of-three .ensures) ∙ c .before .before .before .before .before .before .before .before .if2 .left in
+    let id = c .before .before .before .before .before .before .if3 .left in
+    let ends = rw (c .before .before .before .number-of-two .ensures) at (c .before .before .is-endless .ensures) in
+    sym (after-start (now (c .before .before .before .before .before .before .before .before .before .before .before .before .before .before .before .args .bytes)) long start id (sym ends ∙ c .before .if4 .left) b (sym (c .is-bare .ensures) ∙ e))
 
 returns : tie.Need-returns
 returns c = search (tests, arith)
 
-shared-slice-read-start-of : tie.Need-shared-slice-read-start-of
-shared-slice-read-start-of c = search needs
+shared-slice-read-number-of-three : tie.Need-shared-slice-read-number-of-three
+shared-slice-read-number-of-three c = search needs
 
-shared-slice-read-start-of-2 : tie.Need-shared-slice-read-start-of-2
-shared-slice-read-start-of-2 c = search needs
+shared-slice-read-number-of-three-2 : tie.Need-shared-slice-read-number-of-three-2
+shared-slice-read-number-of-three-2 c = search needs
 
-shared-slice-read-start-of-3 : tie.Need-shared-slice-read-start-of-3
-shared-slice-read-start-of-3 c = search needs
+shared-slice-read-number-of-three-3 : tie.Need-shared-slice-read-number-of-three-3
+shared-slice-read-number-of-three-3 c = search needs
 
-start-of-requires : tie.Need-start-of-requires
-start-of-requires c κs = search needs
+number-of-three-requires : tie.Need-number-of-three-requires
+number-of-three-requires c κs = search needs
 
 returns-2 : tie.Need-returns-2
-returns-2 c = rw (← c .before .start-of .ensures) (search (tests, arith))
+returns-2 c = rw (← c .before .number-of-three .ensures) (search (tests, arith))
 
 shared-slice-read-id : tie.Need-shared-slice-read-id
 shared-slice-read-id c = search needs
 
 returns-3 : tie.Need-returns-3
-returns-3 c = rw (← c .before .before .before .start-of .ensures) (search (tests, arith))
+returns-3 c = rw (← c .before .before .before .number-of-three .ensures) (search (tests, arith))
 
-shared-slice-read-length-of : tie.Need-shared-slice-read-length-of
-shared-slice-read-length-of c = search needs
+shared-slice-read-number-of-two : tie.Need-shared-slice-read-number-of-two
+shared-slice-read-number-of-two c = search needs
 
-shared-slice-read-length-of-2 : tie.Need-shared-slice-read-length-of-2
-shared-slice-read-length-of-2 c = search needs
+shared-slice-read-number-of-two-2 : tie.Need-shared-slice-read-number-of-two-2
+shared-slice-read-number-of-two-2 c = search needs
 
-length-of-requires : tie.Need-length-of-requires
-length-of-requires c κs = search needs
+number-of-two-requires : tie.Need-number-of-two-requires
+number-of-two-requires c κs = search needs
 
 is-endless-requires : tie.Need-is-endless-requires
 is-endless-requires c κs = search needs
 
 returns-4 : tie.Need-returns-4
-returns-4 c = rw (← c .before .before .before .before .before .before .before .before .start-of .ensures, ← c .before .before .length-of .ensures) (search (tests, arith) depth 10)
+returns-4 c = rw (← c .before .before .before .before .before .before .before .before .number-of-three .ensures, ← c .before .before .number-of-two .ensures) (search (tests, arith) depth 10)
 
 is-bare-requires : tie.Need-is-bare-requires
 is-bare-requires c κs = search needs
 
 returns-5 : tie.Need-returns-5
-returns-5 c = rw (c .before .before .before .before .length-of .ensures) (reads (c .before) true (c .if5 .taken))
+returns-5 c = rw (c .before .before .before .before .number-of-two .ensures) (reads (c .before) true (c .if5 .taken))
 
 optional-requires : tie.Need-optional-requires
 optional-requires c κs = search needs
@@ -78,16 +79,16 @@ read-spec =
     tie.close
     (tie.spec
     returns
-    shared-slice-read-start-of
-    shared-slice-read-start-of-2
-    shared-slice-read-start-of-3
-    start-of-requires
+    shared-slice-read-number-of-three
+    shared-slice-read-number-of-three-2
+    shared-slice-read-number-of-three-3
+    number-of-three-requires
     returns-2
     shared-slice-read-id
     returns-3
-    shared-slice-read-length-of
-    shared-slice-read-length-of-2
-    length-of-requires
+    shared-slice-read-number-of-two
+    shared-slice-read-number-of-two-2
+    number-of-two-requires
     is-endless-requires
     returns-4
     is-bare-requires

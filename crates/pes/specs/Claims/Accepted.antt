@@ -3,7 +3,7 @@ use mathlib.Core.Path.{_≡_}
 use mathlib.Core.List.{List}
 use Prim.Native.Nat.{ℕ, _+_, _≤_, _<_}
 use lib.ListN.{length}
-use Rattle.rules.specs.Answer.{given}
+use Rattle.ground.specs.Answer.{given}
 use Rattle.clock.specs.Range.{stampTurn}
 use Rattle.pes.specs.Stamps.{Times, none, pts, both}
 use Rattle.pes.specs.Header.{Full, full, readHeader}

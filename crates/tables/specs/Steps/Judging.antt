@@ -1,7 +1,7 @@
 -- What judging a section says.
 use mathlib.Core.List.{List}
-use Rattle.rules.specs.Answer.{Answer, refused, given}
-use Rattle.rules.specs.Refusal.{Row, judge}
+use Rattle.ground.specs.Answer.{Answer, refused, given}
+use Rattle.ground.specs.Refusal.{Row, judge}
 use Rattle.tables.specs.declared.shared.Judged.{Judged}
 use Rattle.tables.specs.declared.shared.Judged.the-variants as judged
 

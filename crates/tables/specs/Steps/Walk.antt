@@ -5,10 +5,10 @@ use Prim.Native.Nat.{ℕ, zero, suc, _+_}
 use lib.Dec.{eqb}
 use lib.ListN.{drop}
 use lib.Seq.{slice}
-use Rattle.rules.specs.Answer.{Answer, refused, given}
-use Rattle.rules.specs.Refusal.{judge}
+use Rattle.ground.specs.Answer.{Answer, refused, given}
+use Rattle.ground.specs.Refusal.{judge}
 use Rattle.tables.specs.Loop.{Descriptor, Entry, descriptorsOf, entriesOf}
-use Rattle.tables.specs.Pmt.{programOf, streamsOf, pmtRefusals}
+use Rattle.tables.specs.Pmt.{programOf, streamsOf, pmtLoops, pmtRefusals}
 use Rattle.tables.specs.declared.pmt.Walked.{Walked}
 use Rattle.tables.specs.declared.pmt.Walked.the-variants as walked
 
@@ -75,6 +75,10 @@ module _ (asked item : ℕ) where
   -- What the walk over a section's body finds
   abbrev pub foundIn : List ℕ → Found
   foundIn s = seek 1 (seekIn 0 (met 0 0) (programOf s .items)) (streamsOf s .items)
+
+  -- What walking over the body of a section answers, where all before its loops passes
+  abbrev pub bodyWalkedOf : List ℕ → Answer Found
+  bodyWalkedOf s = judge refused (pmtLoops s) (given (foundIn s))
 
   -- What judging a section and walking over its body answers
   abbrev pub pmtWalkedOf : List ℕ → Answer Found

@@ -1,7 +1,7 @@
 -- One test, as the definition has it.
 -- Assumes nothing.
 use native.Mathlib.Omega.{arith}
-use Rattle.rules.proofs.Refusal.{tests}
+use Rattle.ground.proofs.Refusal.{tests}
 use borrow.Author.Needs.{needs}
 use Rattle.text.proofs.byte.Statement.{statement}
 use Rattle.text.proofs.byte.Tie as tie

@@ -1,10 +1,10 @@
 //! Held bytes that contradict their record in each way, or just do not.
 
+use super::super::packets::any_packet;
 use super::super::random::Random;
 use super::super::script::Script;
 use super::super::sections::section_head;
-use super::joints::{any_packet, one_pid};
-use super::states::filter_pid;
+use super::states::{filter_pid, one_pid};
 use crate::numbers_of_the_house::AREA_BYTES;
 
 pub fn contradiction(random: &mut Random, script: &mut Script) {

@@ -1,9 +1,8 @@
 //! Packets with one fault or several, so that the order of refusals is seen.
 
-use super::super::packets::spoil;
+use super::super::packets::{any_packet, spoil};
 use super::super::random::Random;
 use super::super::script::Script;
-use super::joints::any_packet;
 use super::states::filter_pid;
 use crate::numbers_of_the_house::{LEAST_OUTPUT_BYTES, STORE_BYTES};
 

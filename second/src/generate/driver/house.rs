@@ -1,10 +1,11 @@
 //! A full house: all areas and places taken, freed and taken again.
 
+use super::super::packets::any_packet;
 use super::super::random::Random;
 use super::super::script::Script;
-use super::joints::any_packet;
 use super::states::{counter_before, filter_pid, some_number};
-use crate::filters_and_areas::{close, open, State};
+use crate::filters_and_areas::{close, open};
+use crate::state::State;
 
 pub fn house(random: &mut Random, script: &mut Script) {
     let kinds = random.between(7, 10);

@@ -1,11 +1,11 @@
 //! Sound states set record by record, with held bytes that contradict nothing.
 
+use super::super::packets::any_packet;
 use super::super::random::Random;
 use super::super::script::Script;
 use super::super::sections::section_head;
-use super::joints::any_packet;
-use crate::filters_and_areas::{Area, Place, State};
 use crate::numbers_of_the_house::{AREAS, AREA_BYTES, LAST_NUMBER, PLACES};
+use crate::state::{Area, Place, State};
 
 pub fn filter_pid(random: &mut Random) -> u16 {
     match random.below(3) {
@@ -61,6 +61,29 @@ pub fn sound_state(random: &mut Random) -> State {
         area.users = area.users.saturating_sub(1);
     }
     state
+}
+
+/// A sound state with filters on one PID.
+pub fn one_pid(random: &mut Random, pid: u16, held: usize, counter: u8) -> (State, usize) {
+    let mut state = State::fresh();
+    let index = random.below(AREAS);
+    let filters = random.pick(&[1, 1, 1, 2, 5]);
+    for number in 1..=filters {
+        let place = (random.below(5) + 6 * number) % PLACES;
+        state.places[place] = Place {
+            number: number as u16,
+            area: index as u8,
+        };
+    }
+    state.next = filters as u32 + 1;
+    state.areas[index] = Area {
+        pid,
+        users: filters as u8,
+        held: held as u64,
+        seen: true,
+        counter,
+    };
+    (state, index)
 }
 
 /// A record with a PID of its own, and one user too many as a mark that it is used.

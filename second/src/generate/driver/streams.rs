@@ -1,10 +1,10 @@
 //! Streams of sections on several PIDs, whole or damaged.
 
-use super::super::packets::{packet_around, spoil, Head};
+use super::super::packets::{any_packet, packet_around, spoil, Head};
+use super::super::payloads::loads;
 use super::super::random::Random;
 use super::super::script::Script;
-use super::super::sections::{loads, section, section_size};
-use super::joints::any_packet;
+use super::super::sections::{section, section_size};
 use super::states::filter_pid;
 
 pub fn stream(random: &mut Random, script: &mut Script) {

@@ -1,25 +1,46 @@
 //! States that break one clause of soundness, and states shaken at random.
 
+use super::super::packets::any_packet;
 use super::super::random::Random;
 use super::super::script::Script;
-use super::joints::any_packet;
 use super::states::{
     counter_before, filter_pid, hold_rightly, some_number, sound_state, wanted_pid,
 };
-use crate::filters_and_areas::{open, Area, Place, State};
+use crate::filters_and_areas::open;
 use crate::from_payload_to_sections::packet_call;
 use crate::numbers_of_the_house::{AREAS, LEAST_OUTPUT_BYTES, PLACES, STORE_BYTES};
-use crate::soundness::CLAUSES;
+use crate::soundness::{self, Clause, CLAUSES};
+use crate::state::{Area, Place, State};
+
+type Break = fn(&mut Random, &mut State);
+
+/// Each clause with what breaks it.
+const BREAKS: [(Clause, Break); CLAUSES.len()] = [
+    (soundness::used_areas_have_different_pids, break_pids),
+    (
+        soundness::used_areas_have_pids_for_filters,
+        break_filter_pids,
+    ),
+    (soundness::user_counts_are_the_open_filters, break_users),
+    (soundness::open_numbers_differ, break_numbers),
+    (soundness::open_numbers_are_below_the_next, break_next_above),
+    (soundness::the_next_number_is_in_range, break_next),
+    (soundness::held_bytes_are_below_a_whole_area, break_held),
+    (soundness::areas_without_counter_hold_nothing, break_unseen),
+    (soundness::areas_with_counter_have_four_bits, break_counters),
+    (soundness::open_filters_stand_on_used_areas, break_standing),
+    (soundness::free_records_are_zero, break_free),
+];
 
 /// Breaks exactly one clause of a sound state, makes every call, and at times mends it again.
 pub fn broken(random: &mut Random, script: &mut Script) {
-    let clause = random.below(CLAUSES.len());
+    let chosen = random.pick(&BREAKS);
     let (before, state) = if random.one_in(3) {
         let before = called_state(random, script);
-        let state = broken_from(random, &before, clause).unwrap_or_else(|| before.clone());
+        let state = broken_from(random, &before, chosen).unwrap_or_else(|| before.clone());
         (before, state)
     } else {
-        record_state(random, script, clause)
+        record_state(random, script, chosen)
     };
     script.change(&before, &state);
     every_call(random, script, &state);
@@ -30,12 +51,13 @@ pub fn broken(random: &mut Random, script: &mut Script) {
 }
 
 /// The state with that clause broken and no other, if a few tries find one.
-fn broken_from(random: &mut Random, before: &State, clause: usize) -> Option<State> {
+fn broken_from(random: &mut Random, before: &State, chosen: (Clause, Break)) -> Option<State> {
+    let (clause, break_it) = chosen;
     for _ in 0..40 {
         let mut state = before.clone();
-        break_clause(random, &mut state, clause);
-        let failing = |index: &usize| !CLAUSES[*index](&state);
-        if (0..CLAUSES.len()).filter(failing).eq(Some(clause)) {
+        break_it(random, &mut state);
+        let failing = CLAUSES.iter().filter(|clause| !clause(&state)).count();
+        if failing == 1 && !clause(&state) {
             return Some(state);
         }
     }
@@ -43,10 +65,14 @@ fn broken_from(random: &mut Random, before: &State, clause: usize) -> Option<Sta
 }
 
 /// A sound state set by records, and the same with the clause broken.
-fn record_state(random: &mut Random, script: &mut Script, clause: usize) -> (State, State) {
+fn record_state(
+    random: &mut Random,
+    script: &mut Script,
+    chosen: (Clause, Break),
+) -> (State, State) {
     loop {
         let before = sound_state(random);
-        if let Some(state) = broken_from(random, &before, clause) {
+        if let Some(state) = broken_from(random, &before, chosen) {
             script.state(&before);
             hold_rightly(random, script, &before);
             return (before, state);
@@ -117,64 +143,107 @@ fn some_place(random: &mut Random, state: &State, open: bool) -> Option<usize> {
     (!found.is_empty()).then(|| random.pick(&found))
 }
 
-fn break_clause(random: &mut Random, state: &mut State, clause: usize) {
-    match clause {
-        0..=2 | 6..=8 => break_area(random, state, clause),
-        3 | 4 | 9 => break_place(random, state, clause),
-        5 if random.one_in(2) => {
-            *state = State::fresh();
-            state.next = 0;
-        }
-        5 => state.next = random.pick(&[65_537, 65_538, 131_072, u32::MAX]),
-        _ => break_free(random, state),
-    }
-}
-
-fn break_area(random: &mut Random, state: &mut State, clause: usize) {
-    let wanted: fn(&Area) -> bool = match clause {
-        6 | 8 => |area| area.used() && area.seen,
-        7 => |area| area.used() && !area.seen,
-        _ => Area::used,
-    };
+/// The PID of some used area, and a wanted area, where there are both.
+fn chosen<'a>(
+    random: &mut Random,
+    state: &'a mut State,
+    wanted: fn(&Area) -> bool,
+) -> Option<(u16, &'a mut Area)> {
     let first = some_area(random, state, Area::used);
-    if let (Some(first), Some(index)) = (first, some_area(random, state, wanted)) {
-        let pid = state.areas[first].pid;
-        let area = &mut state.areas[index];
-        match clause {
-            0 => area.pid = pid,
-            1 => area.pid = random.pick(&[0x1FFF, 0x2000, 0xFFFF]),
-            2 => area.users = random.pick(&[area.users - 1, area.users + 1, 255]),
-            6 => area.held = random.pick(&[4_096, 4_097, 65_536, 1 << 32, u64::MAX]),
-            7 if random.one_in(2) => area.held = random.pick(&[1, 3, 4_095]),
-            7 => area.counter = random.pick(&[1, 15]),
-            _ => area.counter = random.pick(&[16, 17, 128, 255]),
+    let index = some_area(random, state, wanted)?;
+    let pid = state.areas[first?].pid;
+    Some((pid, &mut state.areas[index]))
+}
+
+fn break_pids(random: &mut Random, state: &mut State) {
+    if let Some((pid, area)) = chosen(random, state, Area::used) {
+        area.pid = pid;
+    }
+}
+
+fn break_filter_pids(random: &mut Random, state: &mut State) {
+    if let Some((_, area)) = chosen(random, state, Area::used) {
+        area.pid = random.pick(&[0x1FFF, 0x2000, 0xFFFF]);
+    }
+}
+
+fn break_users(random: &mut Random, state: &mut State) {
+    if let Some((_, area)) = chosen(random, state, Area::used) {
+        area.users = random.pick(&[area.users - 1, area.users + 1, 255]);
+    }
+}
+
+fn break_held(random: &mut Random, state: &mut State) {
+    if let Some((_, area)) = chosen(random, state, |area| area.used() && area.seen) {
+        area.held = random.pick(&[4_096, 4_097, 65_536, 1 << 32, u64::MAX]);
+    }
+}
+
+fn break_unseen(random: &mut Random, state: &mut State) {
+    if let Some((_, area)) = chosen(random, state, |area| area.used() && !area.seen) {
+        if random.one_in(2) {
+            area.held = random.pick(&[1, 3, 4_095]);
+        } else {
+            area.counter = random.pick(&[1, 15]);
         }
     }
 }
 
-fn break_place(random: &mut Random, state: &mut State, clause: usize) {
-    let open = some_place(random, state, true);
-    let free = some_place(random, state, false);
-    let other = some_place(random, state, true);
-    match (clause, open, free, other) {
-        (3, Some(open), _, Some(other)) => {
-            state.places[other].number = state.places[open].number;
-        }
-        (4, Some(_), _, _) if random.one_in(2) => {
+fn break_counters(random: &mut Random, state: &mut State) {
+    if let Some((_, area)) = chosen(random, state, |area| area.used() && area.seen) {
+        area.counter = random.pick(&[16, 17, 128, 255]);
+    }
+}
+
+/// Some places of a state, where there are any.
+struct Chosen {
+    open: Option<usize>,
+    free: Option<usize>,
+    other: Option<usize>,
+}
+
+fn chosen_places(random: &mut Random, state: &State) -> Chosen {
+    Chosen {
+        open: some_place(random, state, true),
+        free: some_place(random, state, false),
+        other: some_place(random, state, true),
+    }
+}
+
+fn break_numbers(random: &mut Random, state: &mut State) {
+    let chosen = chosen_places(random, state);
+    if let (Some(open), Some(other)) = (chosen.open, chosen.other) {
+        state.places[other].number = state.places[open].number;
+    }
+}
+
+fn break_next_above(random: &mut Random, state: &mut State) {
+    if let Some(open) = chosen_places(random, state).open {
+        if random.one_in(2) {
             let numbers = state.places.iter().map(|place| place.number);
             state.next = u32::from(numbers.max().unwrap_or(1));
-        }
-        (4, Some(open), _, _) if state.next <= 65_535 => {
+        } else if state.next <= 65_535 {
             let past = random.between(state.next as usize, 65_535);
             state.places[open].number = random.pick(&[state.next as u16, past as u16]);
         }
-        (9, _, Some(free), _) => {
-            state.places[free] = Place {
-                number: random.between(1, state.next as usize) as u16,
-                area: random.pick(&[8, 9, 40, 255]),
-            };
-        }
-        _ => {}
+    }
+}
+
+fn break_next(random: &mut Random, state: &mut State) {
+    if random.one_in(2) {
+        *state = State::fresh();
+        state.next = 0;
+    } else {
+        state.next = random.pick(&[65_537, 65_538, 131_072, u32::MAX]);
+    }
+}
+
+fn break_standing(random: &mut Random, state: &mut State) {
+    if let Some(free) = chosen_places(random, state).free {
+        state.places[free] = Place {
+            number: random.between(1, state.next as usize) as u16,
+            area: random.pick(&[8, 9, 40, 255]),
+        };
     }
 }
 

@@ -2,7 +2,7 @@
 -- Assumes nothing.
 use native.Mathlib.Omega.{arith}
 use Rattle.clock.proofs.Modulus.{minus-ahead, minus-behind}
-use Rattle.rules.proofs.Refusal.{tests}
+use Rattle.ground.proofs.Refusal.{tests}
 use borrow.Author.Needs.{needs}
 use Rattle.clock.proofs.reference.forward.Statement.{statement}
 use Rattle.clock.proofs.reference.forward.Tie as tie

@@ -12,7 +12,7 @@ use mir.ValLaws.{toZ-pos, toZ-ofZ}
 use Rattle.clock.specs.Range.{stampTurn}
 use Rattle.clock.proofs.Turn.{turns}
 use Rattle.clock.proofs.Signed.{remainder-fits}
-use Rattle.rules.proofs.Refusal.{tests}
+use Rattle.ground.proofs.Refusal.{tests}
 use borrow.Author.Needs.{needs}
 use Rattle.clock.proofs.stamp.difference.Statement.{statement}
 use Rattle.clock.proofs.stamp.difference.Tie as tie

@@ -4,9 +4,9 @@ use native.Mathlib.Omega.{arith}
 use native.Mathlib.Nat.{div-one}
 use lib.ListN.{length-set}
 use denote.Ref.{now}
-use Rattle.rules.specs.Number.{bytesOf}
-use Rattle.rules.proofs.Write.{sets-put}
-use Rattle.rules.proofs.Refusal.{tests}
+use Rattle.ground.specs.Number.{bytesOf}
+use Rattle.ground.proofs.Write.{sets-put}
+use Rattle.ground.proofs.Refusal.{tests}
 use borrow.Author.Needs.{needs}
 use Rattle.clock.proofs.stamp.write.Statement.{statement}
 use Rattle.clock.proofs.stamp.write.Tie as tie

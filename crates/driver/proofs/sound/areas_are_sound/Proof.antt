@@ -5,9 +5,9 @@ use Prim.Native.Nat.{_≤_, _-_}
 use native.Mathlib.Omega.{arith}
 use borrow.Author.Needs.{needs}
 use lib.ListN.{length, drop}
-use Rattle.rules.specs.Walk.{all}
+use Rattle.ground.specs.Walk.{all}
 use borrow.Author.Tests.{not-true, not-false}
-use Rattle.rules.proofs.Walk.{all-stops, all-goes, all-ends}
+use Rattle.ground.proofs.Walk.{all-stops, all-goes, all-ends}
 use Rattle.driver.specs.State.{freeArea}
 use Rattle.driver.specs.Sound.{soundArea}
 use Rattle.driver.proofs.sound.areas_are_sound.Statement.{statement}

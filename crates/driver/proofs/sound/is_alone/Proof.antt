@@ -5,8 +5,8 @@ use mathlib.Core.Bool.{not}
 use Prim.Native.Nat.{_≤_, _-_}
 use native.Mathlib.Omega.{arith}
 use lib.ListN.{length, drop}
-use Rattle.rules.specs.Walk.{all}
-use Rattle.rules.proofs.Walk.{all-stops, all-goes, all-ends}
+use Rattle.ground.specs.Walk.{all}
+use Rattle.ground.proofs.Walk.{all-stops, all-goes, all-ends}
 use Rattle.driver.specs.State.{freeArea}
 use Rattle.driver.specs.Sound.{samePid}
 use borrow.Author.Needs.{needs}

@@ -5,8 +5,8 @@ use Prim.Native.Nat.{_≤_, _-_}
 use native.Mathlib.Omega.{arith}
 use borrow.Author.Tests.{not-true, not-false}
 use lib.ListN.{length, drop}
-use Rattle.rules.specs.Walk.{apart}
-use Rattle.rules.proofs.Walk.{apart-stops, apart-goes, apart-ends}
+use Rattle.ground.specs.Walk.{apart}
+use Rattle.ground.proofs.Walk.{apart-stops, apart-goes, apart-ends}
 use Rattle.driver.specs.State.{freeArea}
 use Rattle.driver.specs.Sound.{samePid}
 use borrow.Author.Needs.{needs}

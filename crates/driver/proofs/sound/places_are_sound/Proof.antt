@@ -5,8 +5,8 @@ use Prim.Native.Nat.{_-_}
 use native.Mathlib.Omega.{arith}
 use borrow.Author.Tests.{not-true, not-false}
 use lib.ListN.{length, getD}
-use Rattle.rules.proofs.Walk.{all-stops}
-use Rattle.rules.specs.Walk.{all}
+use Rattle.ground.proofs.Walk.{all-stops}
+use Rattle.ground.specs.Walk.{all}
 use Rattle.driver.specs.State.{freeFilter}
 use Rattle.driver.specs.Steps.Tally.{fitsPlace}
 use Rattle.driver.proofs.Tally.{Passed, passed-none, passed-turn, passed-ranged, passed-counts, passed-apart, counts-small, clauses-ranged, clauses-counted, clauses-apart, open-inside}

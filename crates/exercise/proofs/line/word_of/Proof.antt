@@ -16,17 +16,11 @@ abbrev μ-loop : tie.MeasureT-loop
 loop-holds : tie.Need-loop-holds Inv-loop μ-loop
 loop-holds c = search needs
 
-mul-w : tie.Need-mul-w Inv-loop μ-loop
-mul-w c = search needs
-
 shared-slice-read-five-bits : tie.Need-shared-slice-read-five-bits Inv-loop μ-loop
 shared-slice-read-five-bits c = omega arith
 
 five-bits-requires : tie.Need-five-bits-requires Inv-loop μ-loop
 five-bits-requires c κs = search needs
-
-add-w : tie.Need-add-w Inv-loop μ-loop
-add-w c = omega arith
 
 add-i : tie.Need-add-i Inv-loop μ-loop
 add-i c = omega arith
@@ -47,10 +41,8 @@ word-of-spec =
     Inv-loop
     μ-loop
     loop-holds
-    mul-w
     shared-slice-read-five-bits
     five-bits-requires
-    add-w
     add-i
     loop-less
     loop-again

@@ -1,7 +1,7 @@
 -- `kind_of` is the table of kinds: at each return the tests that led there pick its row.
 -- Assumes nothing.
 use Rattle.gather.specs.Kind.{kindOf}
-use Rattle.rules.proofs.Refusal.{tests}
+use Rattle.ground.proofs.Refusal.{tests}
 use native.Mathlib.Omega.{arith}
 use borrow.Author.Needs.{needs}
 use Rattle.gather.proofs.kind.kind_of.Statement.{statement}

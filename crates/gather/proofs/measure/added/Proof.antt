@@ -2,7 +2,7 @@
 -- Assumes nothing.
 use denote.Ref.{now}
 use Rattle.gather.proofs.Sized.{sizes-none, sizes-kind, sizes-part, sizes-whole}
-use Rattle.gather.proofs.Parts.{length-part}
+use Rattle.ground.proofs.Part.{length-part}
 use Rattle.gather.specs.Memory.{stretch}
 use Rattle.gather.specs.declared.kind.Kind.the-variants.{Nothing, Overlong}
 use mathlib.Core.Path.{sym, _∙_}

@@ -2,7 +2,7 @@
 -- Assumes nothing.
 use Prim.Native.Nat.{_-_}
 use denote.Ref.{now}
-use Rattle.gather.proofs.Parts.{length-part, part-byte, part-past, byte-after}
+use Rattle.ground.proofs.Part.{length-part, part-at, part-past, behind-at}
 use Rattle.gather.specs.Memory.{stretch}
 use lib.ListN.{List·getD-append}
 use mathlib.Core.Path.{sym, _∙_}
@@ -20,7 +20,7 @@ returns : tie.Need-returns
 returns c = let a = c .before .before .args in
     sym (List·getD-append (stretch (a .held) (now (a .store)) (a .base)) (stretch (a .count) (now (a .payload)) (a .from)) 0 (a .i)
     (rw (length-part (a .held) (now (a .store)) (a .base) (c .before .before .pre .0)) (search needs))
-    ∙ part-byte (a .held) (now (a .store)) (a .base) (a .i) (search needs))
+    ∙ part-at (a .held) (now (a .store)) (a .base) (a .i) 0 (search needs))
 
 add-result-2 : tie.Need-add-result-2
 add-result-2 c = search needs
@@ -30,15 +30,15 @@ shared-slice-read-result-2 c = search needs
 
 returns-2 : tie.Need-returns-2
 returns-2 c = let a = c .before .before .before .args in
-    sym (byte-after (stretch (a .held) (now (a .store)) (a .base)) (stretch (a .count) (now (a .payload)) (a .from)) (a .held) (a .i)
+    sym (behind-at (stretch (a .held) (now (a .store)) (a .base)) (stretch (a .count) (now (a .payload)) (a .from)) (a .held) (a .i) 0
     (length-part (a .held) (now (a .store)) (a .base) (c .before .before .before .pre .0)) (search needs)
-    ∙ part-byte (a .count) (now (a .payload)) (a .from) (a .i - a .held) (search needs))
+    ∙ part-at (a .count) (now (a .payload)) (a .from) (a .i - a .held) 0 (search needs))
 
 returns-3 : tie.Need-returns-3
 returns-3 c = let a = c .before .before .args in
-    sym (byte-after (stretch (a .held) (now (a .store)) (a .base)) (stretch (a .count) (now (a .payload)) (a .from)) (a .held) (a .i)
+    sym (behind-at (stretch (a .held) (now (a .store)) (a .base)) (stretch (a .count) (now (a .payload)) (a .from)) (a .held) (a .i) 0
     (length-part (a .held) (now (a .store)) (a .base) (c .before .before .pre .0)) (search needs)
-    ∙ part-past (a .count) (now (a .payload)) (a .from) (a .i - a .held) (c .before .before .pre .1) (search needs))
+    ∙ part-past (a .count) (now (a .payload)) (a .from) (a .i - a .held) 0 (c .before .before .pre .1) (search needs))
 
 pub joined-byte-spec : {M : Type 1} → statement M
 joined-byte-spec =

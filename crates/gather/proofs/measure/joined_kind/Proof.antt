@@ -1,7 +1,7 @@
 -- `joined_kind` reads the three bytes and the size that the kind of the joined bytes goes by.
 -- Assumes nothing.
 use denote.Ref.{now}
-use Rattle.gather.proofs.Parts.{length-part}
+use Rattle.ground.proofs.Part.{length-part}
 use Rattle.gather.proofs.Classes.{kind-by}
 use Rattle.gather.specs.Memory.{stretch}
 use lib.ListN.{length-append}

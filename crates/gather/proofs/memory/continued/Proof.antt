@@ -1,11 +1,11 @@
 -- `continued` measures, copies a finished section and adds to the held bytes.
 -- Assumes nothing.
 use denote.Ref.{now}
-use Rattle.gather.proofs.Carrying.{added-fits, continued-carried}
-use Rattle.gather.proofs.Parts.{length-part}
+use Rattle.gather.proofs.OnMemory.{added-fits, continued-carried}
+use Rattle.ground.proofs.Part.{length-part}
 use Rattle.gather.specs.Memory.{stretch}
 use Rattle.gather.specs.Steps.{carriedAs}
-use Rattle.rules.specs.Write.{put}
+use Rattle.ground.specs.Write.{put}
 use lib.Seq.{take-length}
 use lib.ListN.{length}
 use Prim.Native.Nat.{ℕ, _+_}

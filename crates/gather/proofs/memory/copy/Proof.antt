@@ -1,14 +1,14 @@
 -- `copy` writes one byte a turn: after i turns the first i of the bytes stand written.
 -- Assumes nothing.
 use mathlib.Core.List.{List}
-use Rattle.rules.proofs.Write.{put-nil, put-turn}
-use Rattle.gather.proofs.Parts.{length-part, part-byte}
+use Rattle.ground.proofs.Write.{put-nil, put-turn}
+use Rattle.ground.proofs.Part.{length-part, part-at}
 use Rattle.gather.specs.Memory.{stretch}
 use lib.ListN.{length, take, length-set}
 use lib.Seq.{take-all}
 use native.Mathlib.Numerals.{add-one}
 use denote.Ref.{now}
-use Rattle.rules.specs.Write.{put}
+use Rattle.ground.specs.Write.{put}
 use Prim.Native.Nat.{ℕ, _≤_, _-_}
 use mathlib.Core.Path.{_≡_, refl, sym, _∙_, ap}
 use native.Mathlib.Omega.{arith}
@@ -51,7 +51,7 @@ loop-again c = let a = c .before .before .before .args in
     let turn = c .before .loop-test .taken in (
       search needs,
       simp length-set same,
-      rw (add-one (l .i), l .inv .2, ← part-byte (a .n) (now (a .src)) (a .from) (l .i) turn)
+      rw (add-one (l .i), l .inv .2, ← part-at (a .n) (now (a .src)) (a .from) (l .i) 0 turn)
           (put-turn (now (a .dst)) (a .at) (stretch (a .n) (now (a .src)) (a .from)) (l .i) 0 (omega arith) (omega arith)),
     )
 

@@ -1,9 +1,9 @@
 -- `finish` copies from the store what is held and from the payload the rest.
 -- Assumes nothing.
 use denote.Ref.{now}
-use Rattle.gather.proofs.Carrying.{finish-put}
+use Rattle.gather.proofs.OnMemory.{finish-put}
 use Rattle.gather.specs.Memory.{stretch}
-use Rattle.rules.specs.Write.{put}
+use Rattle.ground.specs.Write.{put}
 use Prim.Native.Nat.{ℕ, _-_}
 use mathlib.Core.List.{List}
 use mathlib.Core.Path.{_∙_, ap}
@@ -11,8 +11,8 @@ use borrow.Author.Needs.{needs}
 use Rattle.gather.proofs.memory.finish.Statement.{statement}
 use Rattle.gather.proofs.memory.finish.Tie as tie
 
-least-requires : tie.Need-least-requires
-least-requires c κs = search needs
+lesser-requires : tie.Need-lesser-requires
+lesser-requires c κs = search needs
 
 copy-requires : tie.Need-copy-requires
 copy-requires c κs = search needs
@@ -28,12 +28,12 @@ same-length c = search needs
 
 returns : tie.Need-returns
 returns c = let a = c .before .before .before .before .before .before .before .before .before .before .before .before .args in
-    let first = c .before .before .before .before .before .before .before .before .least .result in
+    let first = c .before .before .before .before .before .before .before .before .lesser .result in
     c .before .before .copy2 .ensures
     ∙ ap (λ (l : List ℕ). put l first (stretch (a .bytes - first) (now (a .payload)) (a .from))) (c .before .before .before .before .before .before .copy .ensures)
     ∙ finish-put (now (a .out)) (now (a .store)) (now (a .payload)) (a .base) (a .held) (a .from) (a .bytes) first
-    (c .before .before .before .before .before .before .before .before .before .before .before .before .pre .0) (c .before .before .before .before .before .before .before .before .before .before .before .before .pre .1) (c .before .before .before .before .before .before .before .before .before .before .before .before .pre .2) (c .before .before .before .before .before .before .before .before .least .ensures)
+    (c .before .before .before .before .before .before .before .before .before .before .before .before .pre .0) (c .before .before .before .before .before .before .before .before .before .before .before .before .pre .1) (c .before .before .before .before .before .before .before .before .before .before .before .before .pre .2) (c .before .before .before .before .before .before .before .before .lesser .ensures)
 
 pub finish-spec : {M : Type 1} → statement M
 finish-spec =
-    tie.close (tie.spec least-requires copy-requires sub-copy copy-requires-2 same-length returns)
+    tie.close (tie.spec lesser-requires copy-requires sub-copy copy-requires-2 same-length returns)

@@ -1,6 +1,6 @@
 -- `unfinished` is its table of two rows.
 -- Assumes nothing.
-use Rattle.rules.proofs.Refusal.{tests}
+use Rattle.ground.proofs.Refusal.{tests}
 use native.Mathlib.Omega.{arith}
 use Rattle.gather.proofs.memory.unfinished.Statement.{statement}
 use Rattle.gather.proofs.memory.unfinished.Tie as tie

@@ -1,4 +1,4 @@
--- One section a turn: what is written and what is left of the output make up all the lines.
+-- One section a progress: what is written and what is left of the output make up all the lines.
 -- Assumes nothing.
 use mathlib.Core.Path.{_≡_, refl, sym, _∙_, ap}
 use Prim.Native.Nat.{ℕ}
@@ -7,7 +7,7 @@ use borrow.Author.Needs.{needs}
 use lib.ListN.{length, drop}
 use Rattle.text.specs.Text.{upTo, withBytes}
 use Rattle.listing.specs.Lines.{sectionsOf}
-use Rattle.listing.proofs.Sections.{turn}
+use Rattle.listing.proofs.Sections.{progress}
 use Rattle.listing.proofs.lines.sections.Statement.{statement}
 use Rattle.listing.proofs.lines.sections.Tie as tie
 
@@ -45,7 +45,7 @@ loop-again c =
     let a = c .before .before .before .before .before .before .before .before .before .before .before .args in
     let l = c .before .before .before .before .before .before .before .before .loop in (
       search needs,
-      turn (upTo (l .text) (l .end)) (upTo (c .before .before .before .section .last .0) (c .before .before .before .section .result)) (a .index) (a .pid) (l .left) (l .place) (a .out .now)
+      progress (upTo (l .text) (l .end)) (upTo (c .before .before .before .section .last .0) (c .before .before .before .section .result)) (a .index) (a .pid) (l .left) (l .place) (a .out .now)
           (c .before .before .before .before .byte .result) (c .before .before .before .before .before .before .section-size .result) (c .further .result) (omega arith)
           (c .before .before .before .before .byte .ensures) (c .before .before .before .before .before .before .section-size .ensures) (c .further .ensures) (c .before .before .before .section .ensures)
           ∙ l .inv .1,

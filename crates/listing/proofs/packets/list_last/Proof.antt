@@ -28,7 +28,7 @@ same-length-3 c = search needs
 returns : tie.Need-returns
 returns c =
     let a = c .before .before .before .before .before .before .before .before .before .before .before .before .before .before .args in
-    let w = workOf (a .turn) (now (a .store)) (now (a .out)) in
+    let w = workOf (a .progress) (now (a .store)) (now (a .out)) in
     let listed = c .before .before .before .before .before .before .list-packet .ensures in
     let lines = nextLines w (now (a .bytes)) in
     let fit : length lines ≤ most = lines-fit w (now (a .bytes)) in

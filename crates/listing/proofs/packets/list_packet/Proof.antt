@@ -3,7 +3,7 @@
 use mathlib.Core.Path.{_∙_, ap, ap₂}
 use Prim.Native.Nat.{ℕ}
 use denote.Ref.{now}
-use Rattle.driver.specs.Packet.{After, pidOf}
+use Rattle.driver.specs.Packet.{AfterPacket, pidOf}
 use Rattle.text.specs.Text.{upTo, withBytes}
 use Rattle.listing.specs.Lines.{linesOf}
 use Rattle.listing.specs.Listing.{Work}
@@ -34,9 +34,9 @@ returns c =
     let a = c .before .before .before .before .before .before .before .before .before .before .before .before .before .before .before .before .before .before .before .args in
     let handled = c .before .before .before .before .before .before .before .before .before .before .before .packet .ensures in
     record {
-      work = ap₂ {C = Work} (λ (x : After) (i : ℕ). record { state = x .state; index = i; store = x .store; out = x .out }) handled (c .wrapping-add-u64 .ensures);
+      work = ap₂ {C = Work} (λ (x : AfterPacket) (i : ℕ). record { state = x .state; index = i; store = x .store; out = x .out }) handled (c .wrapping-add-u64 .ensures);
       text = c .before .before .before .packet2 .ensures
-          ∙ ap (λ (x : After). withBytes (upTo (a .text .now) (a .turn .at)) (linesOf (a .turn .index) (pidOf (now (a .packet))) (x .answer) (x .out))) handled;
+          ∙ ap (λ (x : AfterPacket). withBytes (upTo (a .text .now) (a .progress .at)) (linesOf (a .progress .index) (pidOf (now (a .packet))) (x .answer) (x .out))) handled;
     }
 
 pub list-packet-spec : {M : Type 1} → statement M

@@ -1,4 +1,4 @@
--- One packet a turn: what is called and printed, and what is left of the piece, make up all of it.
+-- One packet a progress: what is called and printed, and what is left of the piece, make up all of it.
 -- Assumes nothing.
 use mathlib.Core.List.{List}
 use mathlib.Core.Path.{_≡_, refl, sym, _∙_, ap}

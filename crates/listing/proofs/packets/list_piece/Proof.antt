@@ -37,7 +37,7 @@ same-length-4 c = search needs
 returns : tie.Need-returns
 returns c =
     let a = c .before .before .before .before .before .before .before .before .before .before .before .before .before .before .before .before .before .before .before .args in
-    let w = workOf (a .turn) (now (a .store)) (now (a .out)) in
+    let w = workOf (a .progress) (now (a .store)) (now (a .out)) in
     let listed = c .before .before .before .before .before .before .before .before .before .before .list-packets .ensures in
     let lines = printed (a .end / 188) w (now (a .piece)) in
     let fit : length lines ≤ a .end / 188 * most = printed-fit (a .end / 188) w (now (a .piece)) in

@@ -1,4 +1,4 @@
--- One byte a turn: after i turns the first i of the bytes stand moved.
+-- One byte a progress: after i turns the first i of the bytes stand moved.
 -- Assumes nothing.
 use mathlib.Core.List.{List}
 use mathlib.Core.Path.{_≡_, refl, sym, _∙_, ap}
@@ -8,8 +8,8 @@ use native.Mathlib.Numerals.{add-one}
 use lib.ListN.{length, take, drop, length-set}
 use lib.Seq.{take-all}
 use borrow.Author.Needs.{needs}
-use Rattle.rules.specs.Write.{put}
-use Rattle.rules.proofs.Write.{put-nil}
+use Rattle.ground.specs.Write.{put}
+use Rattle.ground.proofs.Write.{put-nil}
 use Rattle.listing.proofs.Rest.{moved-length, move-turn}
 use Rattle.listing.proofs.packets.move_rest.Statement.{statement}
 use Rattle.listing.proofs.packets.move_rest.Tie as tie

@@ -5,9 +5,9 @@ use borrow.Author.Tests.{not-true, not-false}
 use denote.Ref.{now}
 use Rattle.clock.specs.declared.reference.Reading.{Reading}
 use Rattle.clock.specs.Reference.{toldReference}
-use Rattle.rules.specs.Perhaps.{there}
+use Rattle.ground.specs.Perhaps.{there}
 use Rattle.packet.specs.Steps.{readClock}
-use Rattle.rules.proofs.Judged.{mapped}
+use Rattle.ground.proofs.Judged.{mapped}
 use Rattle.packet.proofs.Clock.{clock-there}
 use borrow.Author.Needs.{needs}
 use Rattle.packet.proofs.adaptation.clock_at.Statement.{statement}

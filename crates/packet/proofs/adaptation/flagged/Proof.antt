@@ -4,11 +4,11 @@ use mathlib.Core.Path.{_≡_, refl, ap, sym, _∙_}
 use Prim.Native.Nat.{_+_, _<_, _≤_}
 use borrow.Author.Tests.{lt-ltb, le-ltb}
 use denote.Ref.{now}
-use Rattle.rules.specs.Perhaps.{there}
+use Rattle.ground.specs.Perhaps.{there}
 use Rattle.packet.specs.Adaptation.{lengthOf, fieldsEnd, flaggedField}
 use Rattle.packet.specs.Steps.{toldClocked, readFlagged}
 use Rattle.packet.specs.declared.adaptation.Clocked.{Clocked}
-use Rattle.rules.proofs.Judged.{joined}
+use Rattle.ground.proofs.Judged.{joined}
 use Rattle.packet.proofs.Flagged.{withClocks, flagged-read}
 use borrow.Author.Needs.{needs}
 use Rattle.packet.proofs.adaptation.flagged.Statement.{statement}
@@ -16,12 +16,15 @@ use Rattle.packet.proofs.adaptation.flagged.Tie as tie
 
 -- where both clock references are read, what they make of the field
 both-read : (c : tie.After-countdown-at) (pcr opcr : Clocked) → c .before .before .before .before .clock-at .result ≡ pcr → c .before .before .clock-at2 .result ≡ opcr
-    → joined (withClocks (flaggedField (now (c .before .before .before .before .before .before .before .before .before .args .bytes)) (there (c .before .before .before .before .before .before .before .before .before .args .size)) (c .before .before .before .before .before .before .before .before .before .args .flags))) (toldClocked pcr) (toldClocked opcr)
-    ≡ readFlagged (now (c .before .before .before .before .before .before .before .before .before .args .bytes)) (there (c .before .before .before .before .before .before .before .before .before .args .size)) (c .before .before .before .before .before .before .before .before .before .args .flags)
-both-read c pcr opcr p o =
-    let a = c .before .before .before .before .before .before .before .before .before .args in
+    → let a = c .before .before .before .before .before .before .before .before .before .args in
     let s = now (a .bytes) in
-    let fit : fieldsEnd s (a .flags) ≤ 5 + lengthOf s = rw (← c .before .before .before .before .before .before .before .parts-of .ensures .end, c .before .before .before .before .before .before .before .before .before .pre .1) (c .before .before .before .before .before .if1 .left) in
+    joined (withClocks (flaggedField s (there (a .size)) (a .flags))) (toldClocked pcr) (toldClocked opcr) ≡ readFlagged s (there (a .size)) (a .flags)
+both-read c pcr opcr p o =
+    let start = c .before .before .before .before .before .before .before .before .before in
+    let a = start .args in
+    let s = now (a .bytes) in
+    let end = c .before .before .before .before .before .before .before .parts-of .ensures .end in
+    let fit : fieldsEnd s (a .flags) ≤ 5 + lengthOf s = rw (← end, start .pre .1) (c .before .before .before .before .before .if1 .left) in
     let first = ap toldClocked (sym p) ∙ c .before .before .before .before .clock-at .ensures in
     let second = ap toldClocked (sym o) ∙ (rw (c .before .before .before .opcr-place .ensures) at (c .before .before .clock-at2 .ensures)) in
     flagged-read s (there (a .size)) (a .flags) (toldClocked pcr) (toldClocked opcr) (le-ltb (5 + lengthOf s) (fieldsEnd s (a .flags)) fit) first second

@@ -2,7 +2,7 @@
 -- Assumes nothing.
 use mathlib.Core.Path.{ap, sym, _∙_}
 use denote.Ref.{now}
-use Rattle.rules.specs.Answer.{given}
+use Rattle.ground.specs.Answer.{given}
 use Rattle.packet.proofs.Field.{field-none, field-bare, field-flagged}
 use borrow.Author.Needs.{needs}
 use Rattle.packet.proofs.adaptation.read.Statement.{statement}

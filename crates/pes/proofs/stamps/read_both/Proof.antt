@@ -7,7 +7,7 @@ use Rattle.clock.specs.declared.stamp.Reading.{Reading}
 use Rattle.clock.specs.Stamp.{toldStamp}
 use Rattle.pes.specs.Stamps.{both, stampRefusal, stampAt}
 use Rattle.pes.specs.Steps.{readStamps}
-use Rattle.rules.proofs.Judged.{joined, judge-joined}
+use Rattle.ground.proofs.Judged.{joined, judge-joined}
 use Rattle.pes.proofs.Stamp.{stamp-part}
 use borrow.Author.Needs.{needs}
 use Rattle.pes.proofs.stamps.read_both.Statement.{statement}

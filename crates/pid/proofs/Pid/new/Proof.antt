@@ -1,7 +1,7 @@
 -- By the one test of the table.
 -- Assumes nothing.
 use native.Mathlib.Omega.{arith}
-use Rattle.rules.proofs.Refusal.{tests}
+use Rattle.ground.proofs.Refusal.{tests}
 use Rattle.pid.proofs.Pid.new.Statement.{statement}
 use Rattle.pid.proofs.Pid.new.Tie as tie
 

@@ -3,12 +3,12 @@
 use mathlib.Core.Path.{_≡_, sym, _∙_, ap, ap₂}
 use Prim.Native.Nat.{ℕ}
 use native.Mathlib.Omega.{arith}
-use Rattle.rules.specs.Answer.{given}
+use Rattle.ground.specs.Answer.{given}
 use Rattle.tables.specs.Answers.{Heading}
 use Rattle.tables.specs.Pat.{patRefusals, patHeadingOf}
 use Rattle.tables.specs.Steps.Judging.{toldJudged, verdictOf}
-use Rattle.tables.proofs.Carried.{is-given, is-refused}
-use Rattle.tables.proofs.Fine.{Passed, pat-fine}
+use Rattle.ground.proofs.Judged.{is-given, is-refused}
+use Rattle.tables.proofs.PassedShared.{Passed, pat-fine}
 use Rattle.tables.proofs.Programs.{pat-count}
 use borrow.Author.Needs.{needs}
 use Rattle.tables.proofs.pat.pat_header.Statement.{statement}

@@ -3,7 +3,7 @@
 use mathlib.Core.Path.{_∙_, ap}
 use Prim.Native.Nat.{_+_}
 use borrow.Author.Needs.{needs}
-use Rattle.rules.specs.Lent.{lent}
+use Rattle.ground.specs.Lent.{lent}
 use Rattle.tables.specs.Pmt.{partOf}
 use Rattle.tables.proofs.Placed.{part-inside}
 use Rattle.tables.proofs.pmt.entry_descriptor_bytes.Statement.{statement}

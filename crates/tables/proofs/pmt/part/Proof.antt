@@ -11,16 +11,19 @@ use borrow.Author.Needs.{needs}
 use Rattle.tables.proofs.pmt.part.Statement.{statement}
 use Rattle.tables.proofs.pmt.part.Tie as tie
 
+-- the descriptor's bytes lie inside the section
+inside : (c : tie.After-d) → let p = c .d .given .0 .0 in p .start + p .size ≤ length (c .before .before .args .section .now)
+inside c =
+    let start = c .before .before in
+    let p = c .d .given .0 .0 in
+    let e : start .args .d ≡ PmtDescriptor.Descriptor p = c .d .given .1 in
+    rw e at (start .pre)
+
 enum-known-d : tie.Need-enum-known-d
 enum-known-d c = search needs
 
 add-end : tie.Need-add-end
-add-end c =
-    let s = c .before .before .before .before .args .section .now in
-    let p = c .before .before .d .given .0 .0 in
-    let e : c .before .before .before .before .args .d ≡ PmtDescriptor.Descriptor p = c .before .before .d .given .1 in
-    let h : p .start + p .size ≤ length s = rw e at (c .before .before .before .before .pre) in
-    omega arith
+add-end c = let h = inside (c .before .before) in omega arith
 
 sub-result : tie.Need-sub-result
 sub-result c = search needs
@@ -29,12 +32,7 @@ part-result-start : tie.Need-part-result-start
 part-result-start c = search needs
 
 part-result-end : tie.Need-part-result-end
-part-result-end c =
-    let s = c .before .before .before .before .args .section .now in
-    let p = c .before .before .d .given .0 .0 in
-    let e : c .before .before .before .before .args .d ≡ PmtDescriptor.Descriptor p = c .before .before .d .given .1 in
-    let h : p .start + p .size ≤ length s = rw e at (c .before .before .before .before .pre) in
-    omega arith
+part-result-end c = let h = inside (c .before .before) in omega arith
 
 enum-told : tie.Need-enum-told
 enum-told c = search needs
@@ -50,20 +48,22 @@ part-result-end-2 c = search needs
 
 returns : tie.Need-returns
 returns c =
-    let s = c .before .before .before .before .before .args .section .now in
+    let a = c .before .before .before .before .before .args in
+    let s = a .section .now in
     let p = c .before .before .before .d .given .0 .0 in
-    let e : c .before .before .before .before .before .args .d ≡ PmtDescriptor.Descriptor p = c .before .before .before .d .given .1 in
+    let e : a .d ≡ PmtDescriptor.Descriptor p = c .before .before .before .d .given .1 in
     let n : p .start + p .size - p .start ≡ p .size = omega arith in
-    rw e (ap₂ (λ (o : ℕ) (l : List ℕ). record { block = c .before .before .before .before .before .args .section .ptr .0; offset = o; bytes = l })
-    (add-comm (p .start) (c .before .before .before .before .before .args .section .ptr .1)) (ap (λ (k : ℕ). take k (drop (p .start) s)) n))
+    rw e (ap₂ (λ (o : ℕ) (l : List ℕ). record { block = a .section .ptr .0; offset = o; bytes = l })
+    (add-comm (p .start) (a .section .ptr .1)) (ap (λ (k : ℕ). take k (drop (p .start) s)) n))
 
 returns-2 : tie.Need-returns-2
 returns-2 c =
-    let s = c .before .before .before .args .section .now in
-    let e : c .before .before .before .args .d ≡ PmtDescriptor.Refused _ = c .before .enum-told .given .1 in
+    let a = c .before .before .before .args in
+    let s = a .section .now in
+    let e : a .d ≡ PmtDescriptor.Refused _ = c .before .enum-told .given .1 in
     let n : length s - length s ≡ 0 = omega arith in
-    rw e (ap₂ (λ (o : ℕ) (l : List ℕ). record { block = c .before .before .before .args .section .ptr .0; offset = o; bytes = l })
-    (add-comm (length s) (c .before .before .before .args .section .ptr .1)) (ap (λ (k : ℕ). take k (drop (length s) s)) n))
+    rw e (ap₂ (λ (o : ℕ) (l : List ℕ). record { block = a .section .ptr .0; offset = o; bytes = l })
+    (add-comm (length s) (a .section .ptr .1)) (ap (λ (k : ℕ). take k (drop (length s) s)) n))
 
 pub part-spec : {M : Type 1} → statement M
 part-spec =

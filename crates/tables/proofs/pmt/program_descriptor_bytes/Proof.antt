@@ -2,7 +2,7 @@
 -- Assumes nothing.
 use mathlib.Core.Path.{_∙_, ap}
 use borrow.Author.Needs.{needs}
-use Rattle.rules.specs.Lent.{lent}
+use Rattle.ground.specs.Lent.{lent}
 use Rattle.tables.specs.Pmt.{partOf}
 use Rattle.tables.proofs.Placed.{part-inside}
 use Rattle.tables.proofs.pmt.program_descriptor_bytes.Statement.{statement}

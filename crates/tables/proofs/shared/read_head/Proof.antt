@@ -6,14 +6,14 @@ use borrow.Author.Needs.{needs}
 use Rattle.tables.proofs.shared.read_head.Statement.{statement}
 use Rattle.tables.proofs.shared.read_head.Tie as tie
 
-shared-slice-read-word : tie.Need-shared-slice-read-word
-shared-slice-read-word c = search needs
+shared-slice-read-number-of-two : tie.Need-shared-slice-read-number-of-two
+shared-slice-read-number-of-two c = search needs
 
-shared-slice-read-word-2 : tie.Need-shared-slice-read-word-2
-shared-slice-read-word-2 c = search needs
+shared-slice-read-number-of-two-2 : tie.Need-shared-slice-read-number-of-two-2
+shared-slice-read-number-of-two-2 c = search needs
 
-word-requires : tie.Need-word-requires
-word-requires c κs = search needs
+number-of-two-requires : tie.Need-number-of-two-requires
+number-of-two-requires c κs = search needs
 
 shared-slice-read-t4 : tie.Need-shared-slice-read-t4
 shared-slice-read-t4 c = search needs
@@ -34,9 +34,9 @@ pub read-head-spec : {M : Type 1} → statement M
 read-head-spec =
     tie.close
     (tie.spec
-    shared-slice-read-word
-    shared-slice-read-word-2
-    word-requires
+    shared-slice-read-number-of-two
+    shared-slice-read-number-of-two-2
+    number-of-two-requires
     shared-slice-read-t4
     shared-slice-read-t10
     shared-slice-read-t14

@@ -17,7 +17,7 @@ use Rattle.tables.proofs.walk.+descriptors+entries.Lts-descriptors as d
 use Rattle.tables.proofs.walk.entries.Reads as entries
 use Rattle.tables.proofs.walk.entries.Kinds as entries-kinds
 use Rattle.tables.proofs.walk.+descriptors+entries.Lts-entries as entries-lts
-use Rattle.tables.proofs.shared.word.Reads as word-reads
+use Rattle.octets.proofs.number_of_two.Reads as two-reads
 use Rattle.tables.proofs.walk.noted.Reads as noted-reads
 use Rattle.tables.proofs.walk.+descriptors+entries.{statement}
 use Rattle.tables.proofs.walk.+descriptors+entries.Tie.{close}
@@ -51,7 +51,7 @@ module _ (t : ℕ) where
   by-descriptors = (entries-below, entries.Post, noted-reads.Asked, noted-reads.Learnt, descriptors-below, descriptors.Post)
 
   abbrev by-entries : entries-lts.Claims
-  by-entries = (word-reads.Asked, word-reads.Learnt, noted-reads.Asked, noted-reads.Learnt, descriptors-below, descriptors.Post)
+  by-entries = (two-reads.Asked, two-reads.Learnt, noted-reads.Asked, noted-reads.Learnt, descriptors-below, descriptors.Post)
 
   descriptors-sub-left : descriptors-lts.Need-sub-left by-descriptors descriptors-at descriptors.Post
   descriptors-sub-left c = omega arith
@@ -130,25 +130,25 @@ module _ (t : ℕ) where
       let a = c .before .before .before .args in
       sym (entries-short (a .asked) (a .item) (a .body .now .now) (a .at) (a .number) (met (a .size .now) (a .place .now)) (omega arith) (omega arith))
 
-  entries-add-word : entries-lts.Need-add-word by-entries entries-at entries.Post
-  entries-add-word c = omega arith
+  entries-add-number-of-two : entries-lts.Need-add-number-of-two by-entries entries-at entries.Post
+  entries-add-number-of-two c = omega arith
 
-  entries-shared-slice-read-word : entries-lts.Need-shared-slice-read-word by-entries entries-at entries.Post
-  entries-shared-slice-read-word c = omega arith
+  entries-shared-slice-read-number-of-two : entries-lts.Need-shared-slice-read-number-of-two by-entries entries-at entries.Post
+  entries-shared-slice-read-number-of-two c = omega arith
 
-  entries-add-word-2 : entries-lts.Need-add-word-2 by-entries entries-at entries.Post
-  entries-add-word-2 c = omega arith
+  entries-add-number-of-two-2 : entries-lts.Need-add-number-of-two-2 by-entries entries-at entries.Post
+  entries-add-number-of-two-2 c = omega arith
 
-  entries-shared-slice-read-word-2 : entries-lts.Need-shared-slice-read-word-2 by-entries entries-at entries.Post
-  entries-shared-slice-read-word-2 c = omega arith
+  entries-shared-slice-read-number-of-two-2 : entries-lts.Need-shared-slice-read-number-of-two-2 by-entries entries-at entries.Post
+  entries-shared-slice-read-number-of-two-2 c = omega arith
 
-  entries-word-requires : entries-lts.Need-word-requires by-entries entries-at entries.Post
-  entries-word-requires c κs = search needs
+  entries-number-of-two-requires : entries-lts.Need-number-of-two-requires by-entries entries-at entries.Post
+  entries-number-of-two-requires c κs = search needs
 
   entries-returns-3 : entries-lts.Need-returns-3 by-entries entries-at entries.Post
   entries-returns-3 c =
       let a = c .before .before .before .before .before .before .before .args in
-      let e = c .before .word .ensures in
+      let e = c .before .number-of-two .ensures in
       sym (entries-bits (a .asked) (a .item) (a .body .now .now) (a .at) (a .number) (met (a .size .now) (a .place .now)) (omega arith) (λ z. c .if3 .taken (ap (λ (w : ℕ). w / 1024 % 4) e ∙ z)))
 
   entries-cast-n : entries-lts.Need-cast-n by-entries entries-at entries.Post
@@ -157,7 +157,7 @@ module _ (t : ℕ) where
   entries-returns-4 : entries-lts.Need-returns-4 by-entries entries-at entries.Post
   entries-returns-4 c =
       let a = c .before .before .before .before .before .before .before .before .args in
-      let e = c .before .before .word .ensures in
+      let e = c .before .before .number-of-two .ensures in
       sym (entries-over (a .asked) (a .item) (a .body .now .now) (a .at) (a .number) (met (a .size .now) (a .place .now)) (omega arith) (rw e at (c .if4 .taken)))
 
   entries-noted-requires : entries-lts.Need-noted-requires by-entries entries-at entries.Post
@@ -178,7 +178,7 @@ module _ (t : ℕ) where
   entries-returns-5 : entries-lts.Need-returns-5 by-entries entries-at entries.Post
   entries-returns-5 c =
       let a = c .before .before .before .before .before .before .before .before .before .before .before .before .before .args in
-      let e = c .before .before .before .before .before .before .before .word .ensures in
+      let e = c .before .before .before .before .before .before .before .number-of-two .ensures in
       c .descriptors .ensures
       ∙ ap₂ (λ (w n : ℕ). walkDescriptors (a .asked) (a .item) (a .body .now .now) (a .at + 5) (a .at + 5 + w % 4096) (a .number) (met (a .size .now) n))
       e (c .before .before .before .noted .ensures)
@@ -212,11 +212,11 @@ module _ (t : ℕ) where
       entries-sub-left
       entries-returns
       entries-returns-2
-      entries-add-word
-      entries-shared-slice-read-word
-      entries-add-word-2
-      entries-shared-slice-read-word-2
-      entries-word-requires
+      entries-add-number-of-two
+      entries-shared-slice-read-number-of-two
+      entries-add-number-of-two-2
+      entries-shared-slice-read-number-of-two-2
+      entries-number-of-two-requires
       entries-returns-3
       entries-cast-n
       entries-returns-4

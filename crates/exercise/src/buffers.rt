@@ -1,0 +1,101 @@
+// The buffers that every line finds, and what it changes in them.
+ghost use Prim.Native.Nat.{_≤_, _<_};
+ghost use lib.ListN.{length};
+use crate::line::Line;
+use crate::outcome;
+
+// The bytes of a line.
+pub(crate) type Bytes = [u8; 8192];
+
+// What is lent to packet calls as a store.
+pub(crate) type Store = [u8; 40960];
+
+// What is lent to packet calls as an output.
+pub(crate) type Output = [u8; 8192];
+
+// The outcomes that are not yet written out.
+pub(crate) type Text = [u8; 65536];
+
+// The lesser of two numbers.
+pub(crate) fn least(a: usize, b: usize) -> usize
+    ensures { λ r. ⌜ r ≤ b ⌝ }
+{
+    if a < b {
+        return a;
+    }
+    b
+}
+
+// The first bytes of a buffer, to be written.
+pub(crate) fn first_mut(bytes: &mut [u8], size: usize) -> &mut [u8] {
+    let n = least(size, bytes.len());
+    &mut bytes[..n]
+}
+
+// The byte at a place, and 0 past the end.
+fn byte(bytes: &[u8], i: usize) -> u8 {
+    if i < bytes.len() {
+        return bytes[i];
+    }
+    0
+}
+
+// The first place where two buffers of one size differ, or their size.
+fn first_apart(a: &[u8], b: &[u8]) -> usize {
+    let mut i: usize = 0;
+    while i < a.len() {
+        if a[i] != byte(b, i) {
+            return i;
+        }
+        i += 1;
+    }
+    i
+}
+
+// The last place where they differ, given the first.
+fn last_apart(a: &[u8], b: &[u8], first: usize) -> usize
+    requires { ⌜ first < length (now a) ⌝ }
+    ensures { λ r. ⌜ (first ≤ r) × (r < length (now (a .entry))) ⌝ }
+{
+    let mut i = a.len() - 1;
+    while first < i {
+        if a[i] != byte(b, i) {
+            return i;
+        }
+        i -= 1;
+    }
+    i
+}
+
+// A buffer's name, and what changed in it.
+pub(crate) fn changed(
+    text: &mut [u8],
+    at: usize,
+    name: &[u8],
+    buffer: &[u8],
+    before: &[u8],
+) -> usize {
+    let end = outcome::word(text, at, name);
+    let first = first_apart(buffer, before);
+    if buffer.len() <= first {
+        return outcome::missing(text, end);
+    }
+    let last = last_apart(buffer, before, first);
+    let behind = last + 1;
+    let row = [
+        first as u64,
+        last as u64,
+        outcome::digest(&buffer[first..behind]),
+    ];
+    outcome::numbers(text, end, &row)
+}
+
+// Whether bytes written from a place on end in a buffer of this size.
+pub(crate) fn fits(line: Line, size: usize) -> bool {
+    let n = line.numbers;
+    let from = n[0] as usize;
+    if size < from {
+        return false;
+    }
+    line.size <= size - from
+}

@@ -1,0 +1,15 @@
+pub mod Answer
+pub mod Test
+pub mod Refusal
+pub mod Judged
+pub mod Write
+pub mod Walk
+pub mod Set
+pub mod Frame
+pub mod Number
+pub mod Part
+pub mod Outcome
+pub mod Field
+pub mod Items
+pub mod Lent
+pub mod Entries

@@ -1,0 +1,52 @@
+//! The records of a state, printed and set.
+
+use crate::state::{Area, Place, State};
+
+/// The state, told by the records that are not all zero.
+pub fn records(state: &State) -> String {
+    let mut parts = vec![format!("next {}", state.next)];
+    for (index, area) in state.areas.iter().enumerate() {
+        if *area != Area::default() {
+            parts.push(area_record(index, area));
+        }
+    }
+    for (index, place) in state.places.iter().enumerate() {
+        if *place != Place::default() {
+            parts.push(place_record(index, place));
+        }
+    }
+    parts.join(" ")
+}
+
+fn area_record(index: usize, area: &Area) -> String {
+    format!(
+        "area {} {} {} {} {} {}",
+        index,
+        area.pid,
+        area.users,
+        area.held,
+        u8::from(area.seen),
+        area.counter
+    )
+}
+
+fn place_record(index: usize, place: &Place) -> String {
+    format!("place {} {} {}", index, place.number, place.area)
+}
+
+pub fn set_area(state: &mut State, numbers: &[u64]) {
+    state.areas[numbers[0] as usize] = Area {
+        pid: numbers[1] as u16,
+        users: numbers[2] as u8,
+        held: numbers[3],
+        seen: numbers[4] == 1,
+        counter: numbers[5] as u8,
+    };
+}
+
+pub fn set_place(state: &mut State, numbers: &[u64]) {
+    state.places[numbers[0] as usize] = Place {
+        number: numbers[1] as u16,
+        area: numbers[2] as u8,
+    };
+}

@@ -1,0 +1,65 @@
+//! Document 01, "Filters and areas": the records that a state is made of.
+
+use crate::numbers_of_the_house::{AREAS, PLACES};
+
+#[derive(Clone, Copy, Debug, Default, PartialEq, Eq)]
+pub struct Area {
+    pub pid: u16,
+    pub users: u8,
+    pub held: u64,
+    pub seen: bool,
+    pub counter: u8,
+}
+
+impl Area {
+    pub fn used(&self) -> bool {
+        self.users != 0
+    }
+}
+
+#[derive(Clone, Copy, Debug, Default, PartialEq, Eq)]
+pub struct Place {
+    pub number: u16,
+    pub area: u8,
+}
+
+impl Place {
+    pub fn open(&self) -> bool {
+        self.number != 0
+    }
+}
+
+#[derive(Clone, Debug, PartialEq, Eq)]
+pub struct State {
+    pub areas: [Area; AREAS],
+    pub places: [Place; PLACES],
+    pub next: u32,
+}
+
+impl State {
+    pub fn fresh() -> State {
+        State {
+            areas: [Area::default(); AREAS],
+            places: [Place::default(); PLACES],
+            next: 1,
+        }
+    }
+
+    pub fn area_of(&self, pid: u16) -> Option<usize> {
+        let mut numbered = self.areas.iter().enumerate();
+        numbered
+            .find(|(_, area)| area.used() && area.pid == pid)
+            .map(|(index, _)| index)
+    }
+
+    /// The set of filter places on an area, place i as bit i.
+    pub fn set_on(&self, area: usize) -> u32 {
+        let mut set = 0;
+        for (index, place) in self.places.iter().enumerate() {
+            if place.open() && usize::from(place.area) == area {
+                set += 2u32.pow(index as u32);
+            }
+        }
+        set
+    }
+}
