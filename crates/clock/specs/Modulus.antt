@@ -1,4 +1,4 @@
--- Counting around a turn, for every modulus.
+-- Document 01, "Time": counting around a turn, for every modulus.
 use Prim.Native.Nat.{ℕ, _+_, _-_, _%_}
 
 -- a − b modulo m, for b at most m: how far it is forward from b to a

@@ -16,6 +16,8 @@ use Rattle.gather.specs.Claims.{Claims}
 use Rattle.gather.specs.declared.Marks.{Marks}
 use Rattle.gather.specs.declared.Gathering.{Gathering}
 use Rattle.gather.specs.declared.Gathering.the-variants as gathering
+use Rattle.gather.specs.declared.kind.Kind.the-variants as kind
+use Rattle.gather.proofs.Walk.{walk-kind}
 use Rattle.gather.proofs.RuleKeeps.{rule-keeps, never-starts}
 use Rattle.gather.proofs.WholeSections.{rule-exact}
 use Rattle.gather.proofs.Spread.{gathers-whole}
@@ -66,6 +68,8 @@ claims =
       gathers = gathers;
       exact = exact;
       keeps = rule-keeps;
+      follows = λ s n e. walk-kind s (kind.Whole n) e;
+      stops = λ s e. walk-kind s kind.Nothing e;
       neverStarts = never-starts;
       exactly = rule-exact;
       spread = gathers-whole;

@@ -3,7 +3,7 @@ use mathlib.Core.Path.{_≡_}
 use mathlib.Core.Bool.{Bool, true, false}
 use mathlib.Core.List.{List, [], _∷_, _++_}
 use Prim.Native.Nat.{ℕ, _+_, _≤_, _<_}
-use lib.ListN.{length}
+use lib.ListN.{length, take, drop}
 use Rattle.ground.specs.House.{leastOutput, payloadBytes}
 use Rattle.ground.specs.Outcome.{Determined}
 use Rattle.ground.specs.Refusal.{ExactCall}
@@ -11,7 +11,7 @@ use Rattle.ground.specs.Answer.{refused}
 use Rattle.ground.specs.Walk.{Every}
 use Rattle.ground.specs.Write.{put}
 use Rattle.gather.specs.Kind.{classify, contradicting, join, cut}
-use Rattle.gather.specs.Rule.{State, Packet, Outcome, repeats, rule}
+use Rattle.gather.specs.Rule.{State, Packet, Outcome, nothing, _then_, walk, repeats, rule}
 use Rattle.gather.specs.Memory.{counterOf, soundMarks, marksOf, stateOf, gatherRefusals, Leaves, leaves, gatherOf}
 use Rattle.gather.specs.Run.{run, starting}
 use Rattle.gather.specs.Examples.{Longest}
@@ -81,6 +81,9 @@ pub record Claims : Type 0 where
       (gatherOf marks counter start payload store base out)
   -- what the rule keeps
   pub keeps : (s : State) (p : Packet) → contradicting (s .held) ≡ false → Keeps s p (rule s p)
+  -- "section follows section until the bytes end or a byte 0xFF stands where a table_id should"
+  pub follows : (s : List ℕ) (n : ℕ) → classify s ≡ Whole n → walk s ≡ take n s then walk (drop n s)
+  pub stops : (s : List ℕ) → classify s ≡ Nothing → walk s ≡ nothing
   -- "Unit start 0: .. the rest is ignored": no section is started
   pub neverStarts : (s : State) (p : Packet) → p .start ≡ false → Never s (rule s p)
   pub exactly : Exactly

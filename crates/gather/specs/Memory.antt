@@ -1,4 +1,4 @@
--- The rule on memory: the held bytes in an area of the store, the finished sections joined at the start of the output.
+-- Document 01, "From payload to sections": the rule on memory, the held bytes in an area of the store, the finished sections joined at the start of the output.
 use mathlib.Core.Bool.{Bool, true, false, cond, not, _&&_}
 use mathlib.Core.List.{List, [], _∷_}
 use Prim.Native.Nat.{ℕ, _-_}

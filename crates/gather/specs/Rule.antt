@@ -1,4 +1,4 @@
--- From payload to sections: the rule alone, over an area's held bytes and last counter.
+-- Document 01, "From payload to sections": the rule alone, over an area's held bytes and last counter.
 use mathlib.Core.Bool.{Bool, true, false, cond, not, _&&_}
 use mathlib.Core.List.{List, [], _∷_, _++_}
 use Prim.Native.Nat.{ℕ, _+_, _%_}

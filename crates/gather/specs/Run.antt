@@ -1,4 +1,4 @@
--- Packets of one PID, one after the other.
+-- Document 01, "From payload to sections": packets of one PID, one after the other.
 use mathlib.Core.Bool.{true, false}
 use mathlib.Core.List.{List, [], _∷_, _++_}
 use Prim.Native.Nat.{ℕ, _+_, _%_}

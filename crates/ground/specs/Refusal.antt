@@ -1,4 +1,4 @@
--- A table of refusals: each row has a number and says whether it applies. The first that applies is given.
+-- Document 01, "Refusal numbers": a table of refusals, each row has a number and says whether it applies. The first that applies is given.
 use mathlib.Core.Path.{_≡_}
 use mathlib.Core.Bool.{Bool, true, false, cond}
 use mathlib.Core.List.{List, [], _∷_, _++_}

@@ -1,4 +1,4 @@
--- The listing program's loop: what goes on from packet to packet, and the lines that it prints.
+-- Document 01, "Examples": the listing program's loop, what goes on from packet to packet, and the lines that it prints.
 use mathlib.Core.Path.{_≡_}
 use mathlib.Core.Bool.{true}
 use mathlib.Core.List.{List, [], _++_}

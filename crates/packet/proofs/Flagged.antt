@@ -8,12 +8,12 @@ use Rattle.ground.specs.Answer.{Answer}
 use Rattle.ground.specs.Refusal.{_when_}
 use Rattle.ground.specs.Perhaps.{Perhaps}
 use Rattle.ground.specs.Number.{isFlagged}
-use Rattle.packet.specs.Adaptation.{Field, isOver, isWrongClock, opcrPlace, clockAt, flaggedField}
+use Rattle.packet.specs.Adaptation.{AdaptationField, isOver, isWrongClock, opcrPlace, clockAt, flaggedField}
 use Rattle.packet.specs.Steps.{readClock, readFlagged}
 use Rattle.ground.proofs.Judged.{joined, judge-joined}
 
 -- a field with other clock references
-abbrev pub withClocks : Field → Perhaps ℕ → Perhaps ℕ → Field
+abbrev pub withClocks : AdaptationField → Perhaps ℕ → Perhaps ℕ → AdaptationField
 withClocks f pcr opcr =
     record {
       size = f .size;

@@ -5,7 +5,7 @@ use Prim.Native.Nat.{ℕ}
 use lib.IntN.{ℤ}
 use Rattle.ground.specs.Answer.{Answer, refused, given}
 use Rattle.ground.specs.Perhaps.{Perhaps, there, absent}
-use Rattle.packet.specs.Adaptation.{Span, Field, toldLength, toldClock, toldCountdown, toldPart, toldField}
+use Rattle.packet.specs.Adaptation.{Span, AdaptationField, toldLength, toldClock, toldCountdown, toldPart, toldField}
 use Rattle.packet.specs.Packet.{Contents, toldReading}
 use Rattle.packet.specs.declared.adaptation.Length.{Length}
 use Rattle.packet.specs.declared.adaptation.Length.the-variants as lengths
@@ -52,7 +52,7 @@ back-part : (x : Part) → madePart (toldPart x) ≡ x
 back-part (part.There start size) = refl
 back-part part.Absent = refl
 
-abbrev madeField : Field → Adaptation
+abbrev madeField : AdaptationField → Adaptation
 madeField f =
     record {
       length = madeLength (f .size);

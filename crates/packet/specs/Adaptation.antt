@@ -25,7 +25,7 @@ pub record Span : Type 0 where
   pub size : ℕ
 
 -- "The reading says which fields are there"
-pub record Field : Type 0 where
+pub record AdaptationField : Type 0 where
   pub size : Perhaps ℕ
   pub discontinuity : Bool
   pub randomAccess : Bool
@@ -58,7 +58,7 @@ toldPart (part.There start size) = there (record { start = start; size = size })
 toldPart part.Absent = absent
 
 -- the whole field
-abbrev pub toldField : Adaptation → Field
+abbrev pub toldField : Adaptation → AdaptationField
 toldField a =
     record {
       size = toldLength (a .length);
@@ -149,7 +149,7 @@ abbrev pub countdownAt : List ℕ → ℕ → Bool → Perhaps ℤ
 countdownAt s i flagged = perhaps flagged (signedOf (getD s i 0))
 
 -- the field whose flags byte is `flags`
-abbrev pub flaggedField : List ℕ → Perhaps ℕ → ℕ → Field
+abbrev pub flaggedField : List ℕ → Perhaps ℕ → ℕ → AdaptationField
 flaggedField s size flags =
     record {
       size = size;
@@ -164,7 +164,7 @@ flaggedField s size flags =
     }
 
 -- the field of a packet with this control
-abbrev pub fieldOf : ℕ → List ℕ → Field
+abbrev pub fieldOf : ℕ → List ℕ → AdaptationField
 fieldOf control s = flaggedField s (perhaps (hasField control) (lengthOf s)) (flagsOf control s)
 
 -- the rows that look at the flagged fields: the fit is judged before the values

@@ -8,7 +8,7 @@ use Rattle.ground.specs.House.{packetBytes}
 use Rattle.ground.specs.Answer.{Answer, refused, given}
 use Rattle.ground.specs.Number.{bits, isFlagged, numberAt}
 use Rattle.ground.specs.Refusal.{Row, judge, _when_}
-use Rattle.packet.specs.Adaptation.{Field, toldField, fieldRefusals, fieldOf}
+use Rattle.packet.specs.Adaptation.{AdaptationField, toldField, fieldRefusals, fieldOf}
 use Rattle.packet.specs.declared.Packet.{Packet}
 use Rattle.packet.specs.declared.Reading.{Reading}
 use Rattle.packet.specs.declared.Reading.the-variants as reading
@@ -21,7 +21,7 @@ pub record Contents : Type 0 where
   pub scrambling : ℕ
   pub control : ℕ
   pub counter : ℕ
-  pub field : Field
+  pub field : AdaptationField
 
 -- what a reading says in document 01's terms
 abbrev pub toldPacket : Packet → Contents
@@ -54,7 +54,7 @@ abbrev pub controlOf : ℕ → ℕ
 controlOf h = bits h 4 2
 
 -- the contents by the header's bits and the adaptation field
-abbrev pub contentsOf : ℕ → Field → Contents
+abbrev pub contentsOf : ℕ → AdaptationField → Contents
 contentsOf h field =
     record {
       unitStart = isFlagged h 22;

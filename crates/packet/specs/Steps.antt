@@ -7,7 +7,7 @@ use Rattle.ground.specs.Answer.{Answer, refused, given}
 use Rattle.ground.specs.Refusal.{judge, _when_}
 use Rattle.ground.specs.Perhaps.{Perhaps, absent}
 use Rattle.ground.specs.Number.{isFlagged}
-use Rattle.packet.specs.Adaptation.{Field, toldClock, toldPart, toldField, privatePlace, extensionPlace, fieldsEnd, partAt, isWrongClock, clockAt, flaggedField, flaggedRefusals, fieldOf, fieldRefusals}
+use Rattle.packet.specs.Adaptation.{AdaptationField, toldClock, toldPart, toldField, privatePlace, extensionPlace, fieldsEnd, partAt, isWrongClock, clockAt, flaggedField, flaggedRefusals, fieldOf, fieldRefusals}
 use Rattle.packet.specs.declared.adaptation.Fields.{Fields}
 use Rattle.packet.specs.declared.adaptation.Fields.the-variants as fields
 use Rattle.packet.specs.declared.adaptation.Parts.{Parts}
@@ -30,12 +30,12 @@ pub record Parted (s : List ℕ) (flags : ℕ) (parts : Parts) : Type 0 where
   pub end : parts .end ≡ fieldsEnd s flags
 
 -- what the answer for a whole field says
-abbrev pub toldFields : Fields → Answer Field
+abbrev pub toldFields : Fields → Answer AdaptationField
 toldFields (fields.Value a) = given (toldField a)
 toldFields (fields.Refused n) = refused n
 
 -- a field without a flags byte
-abbrev pub bareField : Perhaps ℕ → Field
+abbrev pub bareField : Perhaps ℕ → AdaptationField
 bareField size =
     record {
       size = size;
@@ -50,9 +50,9 @@ bareField size =
     }
 
 -- the field whose flags byte is there, judged
-abbrev pub readFlagged : List ℕ → Perhaps ℕ → ℕ → Answer Field
+abbrev pub readFlagged : List ℕ → Perhaps ℕ → ℕ → Answer AdaptationField
 readFlagged s size flags = judge refused (flaggedRefusals s true flags) (given (flaggedField s size flags))
 
 -- the field of a packet with this control, judged
-abbrev pub readField : ℕ → List ℕ → Answer Field
+abbrev pub readField : ℕ → List ℕ → Answer AdaptationField
 readField control s = judge refused (fieldRefusals control s) (given (fieldOf control s))

@@ -1,4 +1,4 @@
--- What each call has to answer, by what was accepted before it: in a run no answer hangs on anything else.
+-- Document 01, "What the proofs have to say" (the third demand): what each call has to answer, by what was accepted before it: in a run no answer hangs on anything else.
 use mathlib.Core.Bool.{Bool, true, false, cond, not, _&&_}
 use mathlib.Core.List.{List, [], _∷_, _++_}
 use Prim.Native.Nat.{ℕ, _+_}

@@ -1,4 +1,4 @@
--- The third demand, a field for each of its sentences.
+-- Document 01, "What the proofs have to say": the third demand, a field for each of its sentences.
 use mathlib.Core.Path.{_≡_}
 use mathlib.Core.Bool.{Bool, true, false, cond}
 use mathlib.Core.List.{List, [], _∷_, _++_, reverse}

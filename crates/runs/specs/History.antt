@@ -1,4 +1,4 @@
--- What a log says, read from its questions and answers alone, never from a state.
+-- Document 01, "What the proofs have to say" (the third demand): what a log says, read from its questions and answers alone, never from a state.
 use mathlib.Core.Bool.{Bool, true, false, cond, not, _&&_, _||_}
 use mathlib.Core.List.{List, [], _∷_, _++_, map, reverse}
 use Prim.Native.Nat.{ℕ, suc, _+_, _-_}

@@ -1,4 +1,4 @@
--- The third demand: "any run of opens, closes and packet calls from a fresh state, refused ones among them, each given the last state and a store nobody else has touched".
+-- Document 01, "What the proofs have to say", the third demand: "any run of opens, closes and packet calls from a fresh state, refused ones among them, each given the last state and a store nobody else has touched".
 use mathlib.Core.List.{List, [], _∷_}
 use Prim.Native.Nat.{ℕ}
 use Rattle.ground.specs.Answer.{Answer}

@@ -14,7 +14,7 @@ use Rattle.ground.proofs.Judged.{given-by, passed-over}
 use Rattle.ground.proofs.Refusal.{yes≤, no≤, accepted}
 use Rattle.tables.specs.Section.{byteAt, wordOf, wordAt, headingOf}
 use Rattle.tables.specs.Loop.{Descriptor, Entry}
-use Rattle.tables.specs.Pmt.{programOf, streamsOf, loopsOf, loopAt, descriptorAt, pmtRefusals, pmtHeadingOf, pmtHeaderOf, streamOf, noEntry, pmtMissing, pmtEntryOf, placeOf, descriptorMissing, descriptorIn}
+use Rattle.tables.specs.Pmt.{programOf, streamsOf, loopsOf, loopAt, descriptorAt, pmtRefusals, pmtHeadingOf, pmtHeaderOf, streamOf, noEntry, pmtMissing, pmtEntryOf, descriptorPlace, descriptorMissing, descriptorIn}
 use Rattle.tables.specs.Steps.Walk.{Met, Found, foundIn, pmtWalkedOf}
 use Rattle.tables.proofs.PassedShared.{PmtPassed, pmt-passed}
 use Rattle.tables.proofs.Placed.{descriptor-stands, entry-stands}
@@ -94,8 +94,8 @@ module _ (s : List ℕ) (number i n : ℕ) (m : Met) (e : pmtWalkedOf number (i 
   abbrev d : Descriptor
   d = descriptorAt s number i
 
-  on : descriptorIn s number i ≡ judge refused (descriptorMissing s number i) (given (placeOf d))
-  on = passed-over (placeOf d) (pmtRefusals s) (descriptorMissing s number i) (silent s number (i + 1) n m e)
+  on : descriptorIn s number i ≡ judge refused (descriptorMissing s number i) (given (descriptorPlace d))
+  on = passed-over (descriptorPlace d) (pmtRefusals s) (descriptorMissing s number i) (silent s number (i + 1) n m e)
 
   loops : length (loopsOf s) ≡ n + 1
   loops = let c = counts s number (i + 1) n m e in omega (arith, loops-length s)

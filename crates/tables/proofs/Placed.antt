@@ -18,7 +18,7 @@ use Rattle.ground.proofs.Refusal.{silent-both}
 use Rattle.ground.proofs.Part.{slice-take}
 use Rattle.tables.specs.Answers.{DescriptorPlace}
 use Rattle.tables.specs.Loop.{Entry}
-use Rattle.tables.specs.Pmt.{bodyOf, infoLength, programOf, streamsOf, noEntry, pmtRefusals, loopAt, noDescriptor, descriptorAt, placeOf, descriptorMissing, descriptorRefusals, descriptorIn, startOf, sizeOf}
+use Rattle.tables.specs.Pmt.{bodyOf, infoLength, programOf, streamsOf, noEntry, pmtRefusals, loopAt, noDescriptor, descriptorAt, descriptorPlace, descriptorMissing, descriptorRefusals, descriptorIn, descriptorStart, descriptorSize}
 use Rattle.tables.proofs.PassedShared.{PmtPassed, pmt-passed}
 use Rattle.tables.proofs.Placement.{Stands, EntryStands, descriptors-stand, entries-stand}
 
@@ -76,14 +76,14 @@ module _ (s : List ℕ) (number i : ℕ) where
       (leb-false (length (loopAt s number)) i (silent-both (pmtRefusals s) (descriptorMissing s number i) q .1 .1 .0))
 
   -- it lies inside the section: a refusal's is empty, at the end
-  pub part-inside : startOf s (descriptorIn s number i) + sizeOf (descriptorIn s number i) ≤ length s
+  pub part-inside : descriptorStart s (descriptorIn s number i) + descriptorSize (descriptorIn s number i) ≤ length s
   part-inside =
-      judge-ind refused (λ (a : Answer DescriptorPlace). startOf s a + sizeOf a ≤ length s) (descriptorRefusals s number i) (given (placeOf (descriptorAt s number i)))
+      judge-ind refused (λ (a : Answer DescriptorPlace). descriptorStart s a + descriptorSize a ≤ length s) (descriptorRefusals s number i) (given (descriptorPlace (descriptorAt s number i)))
       (every-of (λ (row : Row). row .applies ≡ true → length s + 0 ≤ length s) (descriptorRefusals s number i) (0 when false) (λ k h e. le-of-eq (add-zero (length s))))
       (λ q. given-stands q .inside)
 
   -- and it is the descriptor's bytes
   pub part-bytes : (p : DescriptorPlace) → descriptorIn s number i ≡ given p → take (p .size) (drop (p .start) s) ≡ descriptorAt s number i .bytes
   part-bytes p e =
-      let g = given-by (descriptorRefusals s number i) (placeOf (descriptorAt s number i)) p e in
+      let g = given-by (descriptorRefusals s number i) (descriptorPlace (descriptorAt s number i)) p e in
       rw (g .1) (sym (given-stands (g .0) .part))

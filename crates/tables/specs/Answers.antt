@@ -23,17 +23,17 @@ pub record Heading : Type 0 where
   pub sectionNumber : ℕ
   pub lastNumber : ℕ
 
--- What the code's header says
+-- what the code's header says
 abbrev pub toldHead : Head → Heading
 toldHead h = record { id = h .id; version = h .version; current = h .current; sectionNumber = h .number; lastNumber = h .last }
 
 -- ---- the answers about a PAT
--- The header, and how many entries follow it
+-- the header, and how many entries follow it
 pub record PatHeading : Type 0 where
   pub heading : Heading
   pub entries : ℕ
 
--- What `pat_header` answers
+-- what `pat_header` answers
 abbrev pub toldPatHeader : PatHeader → Answer PatHeading
 toldPatHeader (pat-header.Header head entries) = given (record { heading = toldHead head; entries = entries })
 toldPatHeader (pat-header.Refused n) = refused n
@@ -43,20 +43,20 @@ pub record Association : Type 0 where
   pub programNumber : ℕ
   pub pid : ℕ
 
--- What `pat_entry` answers
+-- what `pat_entry` answers
 abbrev pub toldPatEntry : PatEntry → Answer Association
 toldPatEntry (pat-entry.Entry p) = given (record { programNumber = p .number; pid = p .pid .0 })
 toldPatEntry (pat-entry.Refused n) = refused n
 
 -- ---- the answers about a PMT
--- The header, "PCR_PID", how many descriptors the program's own loop has, and how many entries follow it
+-- the header, "PCR_PID", how many descriptors the program's own loop has, and how many entries follow it
 pub record PmtHeading : Type 0 where
   pub heading : Heading
   pub pcrPid : ℕ
   pub descriptors : ℕ
   pub entries : ℕ
 
--- What `pmt_header` answers: head, pcr_pid, descriptors, entries
+-- what `pmt_header` answers: head, pcr_pid, descriptors, entries
 abbrev pub toldPmtHeader : PmtHeader → Answer PmtHeading
 toldPmtHeader (pmt-header.Header head pcr descriptors entries) =
     given (record { heading = toldHead head; pcrPid = pcr .0; descriptors = descriptors; entries = entries })
@@ -68,7 +68,7 @@ pub record ElementaryStream : Type 0 where
   pub pid : ℕ
   pub descriptors : ℕ
 
--- What `pmt_entry` answers
+-- what `pmt_entry` answers
 abbrev pub toldPmtEntry : PmtEntry → Answer ElementaryStream
 toldPmtEntry (pmt-entry.Entry s) = given (record { streamType = s .«stream_type»; pid = s .pid .0; descriptors = s .descriptors })
 toldPmtEntry (pmt-entry.Refused n) = refused n
@@ -79,7 +79,7 @@ pub record DescriptorPlace : Type 0 where
   pub start : ℕ
   pub size : ℕ
 
--- What `program_descriptor` and `entry_descriptor` answer
+-- what `program_descriptor` and `entry_descriptor` answer
 abbrev pub toldPmtDescriptor : PmtDescriptor → Answer DescriptorPlace
 toldPmtDescriptor (pmt-descriptor.Descriptor p) = given (record { tag = p .tag; start = p .start; size = p .size })
 toldPmtDescriptor (pmt-descriptor.Refused n) = refused n

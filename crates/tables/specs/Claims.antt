@@ -11,10 +11,10 @@ use Rattle.tables.specs.Answers.{PatHeading, PmtHeading, DescriptorPlace
 use Rattle.tables.specs.Section.{before}
 use Rattle.tables.specs.Loop.{Descriptor, Entry}
 use Rattle.tables.specs.Pat.{patOf, patRefusals, patHeaderOf, patEntryRefusals, patEntryOf}
-use Rattle.tables.specs.Pmt.{programOf, streamsOf, pmtRefusals, pmtHeaderOf, pmtEntryRefusals, pmtEntryOf, descriptorAt, descriptorRefusals, descriptorIn, startOf, sizeOf}
+use Rattle.tables.specs.Pmt.{programOf, streamsOf, pmtRefusals, pmtHeaderOf, pmtEntryRefusals, pmtEntryOf, descriptorAt, descriptorRefusals, descriptorIn, descriptorStart, descriptorSize}
 use Rattle.tables.specs.Promises.{ReadsPatHeader, ReadsPatEntry, ReadsPmtHeader, ReadsPmtEntry, FindsProgramDescriptor, FindsEntryDescriptor, GivesProgramDescriptorBytes, GivesEntryDescriptorBytes}
 
--- What items are laid out as, side by side
+-- what items are laid out as, side by side
 abbrev pub joined : {A : Type 0} → (A → List ℕ) → List A → List ℕ
 joined layout [] = []
 joined layout (x ∷ xs) = layout x ++ joined layout xs
@@ -23,7 +23,7 @@ joined layout (x ∷ xs) = layout x ++ joined layout xs
 abbrev pub laidOut : Descriptor → List ℕ
 laidOut d = d .tag ∷ length (d .bytes) ∷ d .bytes
 
--- An entry of a PMT laid out again, followed by its descriptors
+-- an entry of a PMT laid out again, followed by its descriptors
 abbrev pub entryLaidOut : Entry → List ℕ
 entryLaidOut e = e .lead ++ joined laidOut (e .descriptors)
 
@@ -66,7 +66,7 @@ pub record Claims : Type 0 where
   -- "section_number above last_section_number" is refused for a PMT too: of an accepted one it is not above
   pub pmtNumbers : (s : List ℕ) (h : PmtHeading) → pmtHeaderOf s ≡ given h → h .heading .sectionNumber ≤ h .heading .lastNumber
   -- the part that the answer for a descriptor names lies inside the section, refused or not
-  pub partInside : (s : List ℕ) (number i : ℕ) → startOf s (descriptorIn s number i) + sizeOf (descriptorIn s number i) ≤ length s
+  pub partInside : (s : List ℕ) (number i : ℕ) → descriptorStart s (descriptorIn s number i) + descriptorSize (descriptorIn s number i) ≤ length s
   -- where a descriptor is given, that part is its bytes
   pub partBytes : (s : List ℕ) (number i : ℕ) (p : DescriptorPlace) → descriptorIn s number i ≡ given p
       → take (p .size) (drop (p .start) s) ≡ descriptorAt s number i .bytes

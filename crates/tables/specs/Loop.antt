@@ -8,7 +8,7 @@ use Rattle.ground.specs.Items.{Step, takes, ends, itemsFrom}
 use Rattle.ground.specs.Number.{bits}
 use Rattle.tables.specs.Section.{wordAt}
 
--- What a loop's bytes hold, and whether its items fill it exactly
+-- what a loop's bytes hold, and whether its items fill it exactly
 pub record Loop (A : Type 0) : Type 0 where
   pub fills : Bool
   pub items : List A
@@ -46,11 +46,11 @@ firstDescriptor at (tag ∷ []) = ends unfilled
 firstDescriptor at (tag ∷ n ∷ rest) =
     cond (leb n (length rest)) (takes (2 + n) (record { at = at; tag = tag; bytes = take n rest })) (ends unfilled)
 
--- The descriptors of a loop whose bytes start at the place `at`, one after the other
+-- the descriptors of a loop whose bytes start at the place `at`, one after the other
 unfoldable pub descriptorsOf : ℕ → List ℕ → Loop Descriptor
 descriptorsOf at bytes = itemsFrom onto firstDescriptor filled at bytes
 
--- An entry of a PMT: its place in the section, its five bytes before its descriptors, and these
+-- an entry of a PMT: its place in the section, its five bytes before its descriptors, and these
 pub record Entry : Type 0 where
   pub at : ℕ
   pub lead : List ℕ
@@ -70,6 +70,6 @@ firstEntry at bytes =
     (takes (5 + n) (record { at = at; lead = take 5 bytes; descriptors = own .items }))
     (ends unfilled)
 
--- The entries whose bytes start at the place `at`, one after the other
+-- the entries whose bytes start at the place `at`, one after the other
 unfoldable pub entriesOf : ℕ → List ℕ → Loop Entry
 entriesOf at bytes = itemsFrom onto firstEntry filled at bytes

@@ -11,23 +11,23 @@ use Rattle.tables.specs.Section.{byteAt, wordAt, headingOf, before, pidF
 use Rattle.tables.specs.Refusals.{shared}
 use Rattle.tables.specs.Loop.{Loop, foursOf}
 
--- The entries, from byte 8 up to CRC_32: the four bytes of each
+-- the entries, from byte 8 up to CRC_32: the four bytes of each
 unfoldable pub patOf : List ℕ → Loop (List ℕ)
 patOf s = foursOf (before 8 s)
 
--- Refusals 24 and 26: "section_number above last_section_number"; "entries don't fill their loop"
+-- refusals 24 and 26: "section_number above last_section_number"; "entries don't fill their loop"
 abbrev pub patOwn : List ℕ → List Row
 patOwn s = (24 when ltb (byteAt s 7) (byteAt s 6)) ∷ (26 when not (patOf s .fills)) ∷ []
 
--- Refusals 20, 23, 21, 25, 22, 24, 26
+-- refusals 20, 23, 21, 25, 22, 24, 26
 abbrev pub patRefusals : List ℕ → List Row
 patRefusals s = shared 0 9 s ++ patOwn s
 
--- What a PAT's header says
+-- what a PAT's header says
 abbrev pub patHeadingOf : List ℕ → PatHeading
 patHeadingOf s = record { heading = headingOf s; entries = length (patOf s .items) }
 
--- The header, or the first refusal that applies
+-- the header, or the first refusal that applies
 abbrev pub patHeaderOf : List ℕ → Answer PatHeading
 patHeaderOf s = judge refused (patRefusals s) (given (patHeadingOf s))
 
@@ -35,14 +35,14 @@ patHeaderOf s = judge refused (patRefusals s) (given (patHeadingOf s))
 abbrev pub associationOf : List ℕ → Association
 associationOf bytes = record { programNumber = wordAt bytes 0; pid = pidField (wordAt bytes 2) }
 
--- Refusal 27: "no entry with that index, counted from 0"
+-- refusal 27: "no entry with that index, counted from 0"
 abbrev pub patMissing : List ℕ → ℕ → List Row
 patMissing s i = (27 when leb (length (patOf s .items)) i) ∷ []
 
--- Refusals 20, 23, 21, 25, 22, 24, 26, 27
+-- refusals 20, 23, 21, 25, 22, 24, 26, 27
 abbrev pub patEntryRefusals : List ℕ → ℕ → List Row
 patEntryRefusals s i = patRefusals s ++ patMissing s i
 
--- The entry with an index, or the first refusal that applies
+-- the entry with an index, or the first refusal that applies
 abbrev pub patEntryOf : List ℕ → ℕ → Answer Association
 patEntryOf s i = judge refused (patEntryRefusals s i) (given (associationOf (getD (patOf s .items) i [])))

@@ -14,7 +14,7 @@ use Rattle.tables.specs.Section.{byteAt, wordAt, headingOf, pidField}
 use Rattle.tables.specs.Refusals.{shared}
 use Rattle.tables.specs.Loop.{Loop, Descriptor, Entry, descriptorsOf, entriesOf}
 
--- The section up to CRC_32
+-- the section up to CRC_32
 abbrev pub bodyOf : List ℕ → List ℕ
 bodyOf s = take (length s - 4) s
 
@@ -22,33 +22,33 @@ bodyOf s = take (length s - 4) s
 abbrev pub infoLength : List ℕ → ℕ
 infoLength s = bits (wordAt s 10) 0 12
 
--- The program's descriptors, from byte 12 on
+-- the program's descriptors, from byte 12 on
 unfoldable pub programOf : List ℕ → Loop Descriptor
 programOf s = descriptorsOf 12 (slice 12 (12 + infoLength s) (bodyOf s))
 
--- The entries, which follow them
+-- the entries, which follow them
 unfoldable pub streamsOf : List ℕ → Loop Entry
 streamsOf s = entriesOf (12 + infoLength s) (drop (12 + infoLength s) (bodyOf s))
 
 -- ---- the header
--- Refusals 24 and 26 before the loops: "for a PMT, either is not 0"; "a length inside the section doesn't fit or starts with bits other than 00", of program_info_length
+-- refusals 24 and 26 before the loops: "for a PMT, either is not 0"; "a length inside the section doesn't fit or starts with bits other than 00", of program_info_length
 abbrev pub pmtOwn : List ℕ → List Row
 pmtOwn s =
-    (24 when not (eqb (byteAt s 6) 0)) ∷
-    (24 when not (eqb (byteAt s 7) 0)) ∷
-    (26 when not (eqb (bits (wordAt s 10) 10 2) 0)) ∷
-    (26 when ltb (length s - 16) (infoLength s)) ∷
-    []
+    (24 when not (eqb (byteAt s 6) 0))
+    ∷ (24 when not (eqb (byteAt s 7) 0))
+    ∷ (26 when not (eqb (bits (wordAt s 10) 10 2) 0))
+    ∷ (26 when ltb (length s - 16) (infoLength s))
+    ∷ []
 
--- Refusal 26 of the loops: the same of each ES_info_length, "or entries or descriptors don't fill their loop"
+-- refusal 26 of the loops: the same of each ES_info_length, "or entries or descriptors don't fill their loop"
 abbrev pub pmtLoops : List ℕ → List Row
 pmtLoops s = (26 when not (programOf s .fills && streamsOf s .fills)) ∷ []
 
--- Refusals 20, 23, 21, 25, 22, 24, 26
+-- refusals 20, 23, 21, 25, 22, 24, 26
 abbrev pub pmtRefusals : List ℕ → List Row
 pmtRefusals s = (shared 2 13 s ++ pmtOwn s) ++ pmtLoops s
 
--- What a PMT's header says
+-- what a PMT's header says
 abbrev pub pmtHeadingOf : List ℕ → PmtHeading
 pmtHeadingOf s =
     record {
@@ -58,7 +58,7 @@ pmtHeadingOf s =
       entries = length (streamsOf s .items);
     }
 
--- The header, or the first refusal that applies
+-- the header, or the first refusal that applies
 abbrev pub pmtHeaderOf : List ℕ → Answer PmtHeading
 pmtHeaderOf s = judge refused (pmtRefusals s) (given (pmtHeadingOf s))
 
@@ -67,66 +67,66 @@ pmtHeaderOf s = judge refused (pmtRefusals s) (given (pmtHeadingOf s))
 abbrev pub streamOf : Entry → ElementaryStream
 streamOf e = record { streamType = byteAt (e .lead) 0; pid = pidField (wordAt (e .lead) 1); descriptors = length (e .descriptors) }
 
--- What stands for an entry that is not there
+-- what stands for an entry that is not there
 abbrev pub noEntry : Entry
 noEntry = record { at = 0; lead = []; descriptors = [] }
 
--- Refusal 27: "no entry with that index, counted from 0"
+-- refusal 27: "no entry with that index, counted from 0"
 abbrev pub pmtMissing : List ℕ → ℕ → List Row
 pmtMissing s i = (27 when leb (length (streamsOf s .items)) i) ∷ []
 
--- Refusals 20, 23, 21, 25, 22, 24, 26, 27
+-- refusals 20, 23, 21, 25, 22, 24, 26, 27
 abbrev pub pmtEntryRefusals : List ℕ → ℕ → List Row
 pmtEntryRefusals s i = pmtRefusals s ++ pmtMissing s i
 
--- The entry with an index, or the first refusal that applies
+-- the entry with an index, or the first refusal that applies
 abbrev pub pmtEntryOf : List ℕ → ℕ → Answer ElementaryStream
 pmtEntryOf s i = judge refused (pmtEntryRefusals s i) (given (streamOf (getD (streamsOf s .items) i noEntry)))
 
 -- ---- a descriptor
--- The descriptor loops: number 0 is the program's, number i + 1 that of entry i
+-- the descriptor loops: number 0 is the program's, number i + 1 that of entry i
 abbrev pub loopsOf : List ℕ → List (List Descriptor)
 loopsOf s = programOf s .items ∷ map (λ (e : Entry). e .descriptors) (streamsOf s .items)
 
--- The descriptors of the loop with a number
+-- the descriptors of the loop with a number
 abbrev pub loopAt : List ℕ → ℕ → List Descriptor
 loopAt s number = getD (loopsOf s) number []
 
--- What stands for a descriptor that is not there
+-- what stands for a descriptor that is not there
 abbrev pub noDescriptor : Descriptor
 noDescriptor = record { at = 0; tag = 0; bytes = [] }
 
--- The descriptor with an index of the loop with a number
+-- the descriptor with an index of the loop with a number
 abbrev pub descriptorAt : List ℕ → ℕ → ℕ → Descriptor
 descriptorAt s number i = getD (loopAt s number) i noDescriptor
 
 -- A descriptor's tag, and where in the section its bytes start and how many there are
-abbrev pub placeOf : Descriptor → DescriptorPlace
-placeOf d = record { tag = d .tag; start = d .at + 2; size = length (d .bytes) }
+abbrev pub descriptorPlace : Descriptor → DescriptorPlace
+descriptorPlace d = record { tag = d .tag; start = d .at + 2; size = length (d .bytes) }
 
--- Refusal 27, of the entry that has the loop and of the descriptor in it
+-- refusal 27, of the entry that has the loop and of the descriptor in it
 abbrev pub descriptorMissing : List ℕ → ℕ → ℕ → List Row
 descriptorMissing s number i = (27 when leb (length (loopsOf s)) number) ∷ (27 when leb (length (loopAt s number)) i) ∷ []
 
--- Refusals 20, 23, 21, 25, 22, 24, 26, 27
+-- refusals 20, 23, 21, 25, 22, 24, 26, 27
 abbrev pub descriptorRefusals : List ℕ → ℕ → ℕ → List Row
 descriptorRefusals s number i = pmtRefusals s ++ descriptorMissing s number i
 
--- The descriptor with an index of the loop with a number, or the first refusal that applies
+-- the descriptor with an index of the loop with a number, or the first refusal that applies
 abbrev pub descriptorIn : List ℕ → ℕ → ℕ → Answer DescriptorPlace
-descriptorIn s number i = judge refused (descriptorRefusals s number i) (given (placeOf (descriptorAt s number i)))
+descriptorIn s number i = judge refused (descriptorRefusals s number i) (given (descriptorPlace (descriptorAt s number i)))
 
 -- ---- its bytes
--- Where in the section the answer's bytes start: a refusal's at the section's end
-abbrev pub startOf : List ℕ → Answer DescriptorPlace → ℕ
-startOf s (given p) = p .start
-startOf s (refused n) = length s
+-- where in the section the answer's bytes start: a refusal's at the section's end
+abbrev pub descriptorStart : List ℕ → Answer DescriptorPlace → ℕ
+descriptorStart s (given p) = p .start
+descriptorStart s (refused n) = length s
 
--- How many bytes the answer has: a refusal has none
-abbrev pub sizeOf : Answer DescriptorPlace → ℕ
-sizeOf (given p) = p .size
-sizeOf (refused n) = 0
+-- how many bytes the answer has: a refusal has none
+abbrev pub descriptorSize : Answer DescriptorPlace → ℕ
+descriptorSize (given p) = p .size
+descriptorSize (refused n) = 0
 
--- Of the lent section, the part that an answer names
+-- of the lent section, the part that an answer names
 abbrev pub partOf : Lent → Answer DescriptorPlace → Lent
-partOf l d = part l (startOf (l .bytes) d) (sizeOf d)
+partOf l d = part l (descriptorStart (l .bytes) d) (descriptorSize d)

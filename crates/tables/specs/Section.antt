@@ -6,27 +6,27 @@ use lib.Seq.{slice}
 use Rattle.ground.specs.Number.{numberOf, bits, isFlagged}
 use Rattle.tables.specs.Answers.{Heading}
 
--- The byte at a place
+-- the byte at a place
 abbrev pub byteAt : List ℕ → ℕ → ℕ
 byteAt s i = getD s i 0
 
--- Two bytes as a number
+-- two bytes as a number
 abbrev pub wordOf : ℕ → ℕ → ℕ
 wordOf high low = numberOf (high ∷ low ∷ [])
 
--- The two bytes from a place on, as a number
+-- the two bytes from a place on, as a number
 abbrev pub wordAt : List ℕ → ℕ → ℕ
 wordAt s i = wordOf (byteAt s i) (byteAt s (i + 1))
 
--- Byte 0
+-- byte 0
 abbrev pub tableId : List ℕ → ℕ
 tableId s = byteAt s 0
 
--- The first bit of byte 1
+-- the first bit of byte 1
 abbrev pub syntaxIndicator : List ℕ → ℕ
 syntaxIndicator s = bits (byteAt s 1) 7 1
 
--- The bit after section_syntax_indicator
+-- the bit after section_syntax_indicator
 abbrev pub bitAfter : List ℕ → ℕ
 bitAfter s = bits (byteAt s 1) 6 1
 
@@ -40,10 +40,10 @@ headingOf s = record {
   lastNumber = byteAt s 7;
 }
 
--- The bytes of a section from a place up to its CRC_32, which is its last four bytes
+-- the bytes of a section from a place up to its CRC_32, which is its last four bytes
 abbrev pub before : ℕ → List ℕ → List ℕ
 before from s = slice from (length s - 4) s
 
--- The 13 bits of a PID at the end of two bytes
+-- the 13 bits of a PID at the end of two bytes
 abbrev pub pidField : ℕ → ℕ
 pidField word = bits word 0 13

@@ -14,7 +14,7 @@ ghost use Rattle.ground.specs.Answer.{given};
 ghost use Rattle.ground.specs.Lent.{lent};
 ghost use Rattle.tables.specs.Answers.{toldPmtHeader, toldPmtEntry, toldPmtDescriptor};
 ghost use Rattle.tables.specs.Refusals.{shared};
-ghost use Rattle.tables.specs.Pmt.{infoLength, pmtOwn, descriptorIn, startOf, sizeOf, partOf};
+ghost use Rattle.tables.specs.Pmt.{infoLength, pmtOwn, descriptorIn, descriptorStart, descriptorSize, partOf};
 ghost use Rattle.tables.specs.Promises.{
   ReadsPmtHeader,
   ReadsPmtEntry,
@@ -253,7 +253,7 @@ pub fn entry_descriptor(section: &[u8], entry: u16, index: u16) -> PmtDescriptor
 
 // The part of the section that holds a descriptor's bytes; for a refusal the empty part at its end.
 fn part(section: &[u8], d: PmtDescriptor) -> &[u8]
-    requires { ⌜ startOf (now section) (toldPmtDescriptor d) + sizeOf (toldPmtDescriptor d) ≤ length (now section) ⌝ }
+    requires { ⌜ descriptorStart (now section) (toldPmtDescriptor d) + descriptorSize (toldPmtDescriptor d) ≤ length (now section) ⌝ }
     ensures { λ r. ⌜ lent r ≡ partOf (lent (section .entry)) (toldPmtDescriptor d) ⌝ }
 {
     match d {

@@ -5,7 +5,7 @@ use mathlib.Core.List.{List, [], _∷_}
 use lib.Bits.{bitXor}
 use Rattle.crc.specs.Figure.{msbFirst}
 
--- One turn without input: the bits move up, and the bit that leaves adds the polynomial x^26 + x^23 + .. + x + 1
+-- one turn without input: the bits move up, and the bit that leaves adds the polynomial x^26 + x^23 + .. + x + 1
 unfoldable pub turnOf : ℕ → ℕ
 turnOf v = bitXor (v * 2 % 2 ^ 32) (v / 2 ^ 31 % 2 * 0x04C11DB7)
 
@@ -14,12 +14,12 @@ abbrev pub turns : ℕ → ℕ → ℕ
 turns zero v = v
 turns (suc n) v = turns n (turnOf v)
 
--- Bits go in: each is added to the most significant bit, and the register turns
+-- bits go in: each is added to the most significant bit, and the register turns
 abbrev pub enterBits : ℕ → List Bool → ℕ
 enterBits v [] = v
 enterBits v (b ∷ bs) = enterBits (turnOf (bitXor v (cond b 1 0 * 2 ^ 31))) bs
 
--- Bytes go in
+-- bytes go in
 abbrev pub enterBytes : ℕ → List ℕ → ℕ
 enterBytes v [] = v
 enterBytes v (b ∷ bs) = enterBytes (enterBits v (msbFirst 8 b)) bs

@@ -8,20 +8,20 @@ use Rattle.tables.specs.Answers.{Association, PmtHeading, ElementaryStre
 use Rattle.tables.specs.Section.{wordOf, headingOf}
 use Rattle.tables.specs.Pat.{patOf, patMissing, associationOf}
 
--- The entry with an index of a PAT that passes, or refusal 27
+-- the entry with an index of a PAT that passes, or refusal 27
 abbrev pub patEntryIn : List ℕ → ℕ → Answer Association
 patEntryIn s i = judge refused (patMissing s i) (given (associationOf (getD (patOf s .items) i [])))
 
--- The header of a PMT with these counts
+-- the header of a PMT with these counts
 abbrev pub pmtHeadingAt : List ℕ → ℕ → ℕ → PmtHeading
 pmtHeadingAt s descriptors entries =
     record { heading = headingOf s; pcrPid = wordOf (getD s 8 0) (getD s 9 0) % 8192; descriptors = descriptors; entries = entries }
 
--- The entry of a PMT that stands at a place
+-- the entry of a PMT that stands at a place
 abbrev pub streamAt : List ℕ → ℕ → ℕ → ElementaryStream
 streamAt s place descriptors =
     record { streamType = getD s place 0; pid = wordOf (getD s (place + 1) 0) (getD s (place + 2) 0) % 8192; descriptors = descriptors }
 
--- The descriptor that stands at a place
+-- the descriptor that stands at a place
 abbrev pub descriptorPlaceAt : List ℕ → ℕ → DescriptorPlace
 descriptorPlaceAt s place = record { tag = getD s place 0; start = place + 2; size = getD s (place + 1) 0 }

@@ -9,11 +9,11 @@ use Rattle.tables.specs.declared.shared.Judged.the-variants as judged
 abbrev pub Verdict : Type 0
 Verdict = Answer (Unit {0})
 
--- What the code's verdict says
+-- what the code's verdict says
 abbrev pub toldJudged : Judged → Verdict
 toldJudged judged.Fine = given tt
 toldJudged (judged.Refused n) = refused n
 
--- The verdict of a table alone
+-- the verdict of a table alone
 abbrev pub verdictOf : List Row → Verdict
 verdictOf rows = judge refused rows (given tt)

@@ -12,33 +12,33 @@ use Rattle.tables.specs.Pmt.{programOf, streamsOf, pmtLoops, pmtRefusals
 use Rattle.tables.specs.declared.pmt.Walked.{Walked}
 use Rattle.tables.specs.declared.pmt.Walked.the-variants as walked
 
--- What was met of the loop asked for: how many descriptors, and the place of the item asked for
+-- what was met of the loop asked for: how many descriptors, and the place of the item asked for
 pub record Met : Type 0 where
   pub size : ℕ
   pub place : ℕ
 
--- The same by its two numbers
+-- the same by its two numbers
 abbrev pub met : ℕ → ℕ → Met
 met size place = record { size = size; place = place }
 
--- What a whole walk found: how many loops there are, and what was met
+-- what a whole walk found: how many loops there are, and what was met
 pub record Found : Type 0 where
   pub loops : ℕ
   pub own : Met
 
--- What the number says that a walker answers: there is at least the program's loop
+-- what the number says that a walker answers: there is at least the program's loop
 abbrev pub toldWalk : ℕ → ℕ → ℕ → Answer Found
 toldWalk zero size place = refused 26
 toldWalk (suc n) size place = given (record { loops = suc n; own = met size place })
 
--- What judging a section and walking over its body says: each entry has a loop, and so has the program
+-- what judging a section and walking over its body says: each entry has a loop, and so has the program
 abbrev pub toldWalked : Walked → Answer Found
 toldWalked (walked.Whole entries size place) = given (record { loops = entries + 1; own = met size place })
 toldWalked (walked.Refused n) = refused n
 
--- The loop with the number `asked` is asked for, and in it an item: item 0 is the entry, item i + 1 its descriptor i
+-- the loop with the number `asked` is asked for, and in it an item: item 0 is the entry, item i + 1 its descriptor i
 module _ (asked item : ℕ) where
-  -- The entry of the loop `number` starts at a place
+  -- the entry of the loop `number` starts at a place
   abbrev pub begun : ℕ → ℕ → Met → Met
   begun number at m = record { size = m .size; place = cond (eqb number asked && eqb item 0) at (m .place) }
 
@@ -49,37 +49,37 @@ module _ (asked item : ℕ) where
     place = cond (eqb number asked && eqb item (m .size + 1)) at (m .place);
   }
 
-  -- What the descriptors of the loop `number` add to what was met
+  -- what the descriptors of the loop `number` add to what was met
   abbrev pub seekIn : ℕ → Met → List Descriptor → Met
   seekIn number m [] = m
   seekIn number m (d ∷ ds) = seekIn number (passed number (d .at) m) ds
 
-  -- What the entries add to what was met, the first of them with the loop `number`; at the end the number of loops
+  -- what the entries add to what was met, the first of them with the loop `number`; at the end the number of loops
   abbrev pub seek : ℕ → Met → List Entry → Found
   seek number m [] = record { loops = number; own = m }
   seek number m (e ∷ es) = seek (number + 1) (seekIn number (begun number (e .at) m) (e .descriptors)) es
 
-  -- The walk over the entries from `at` on
+  -- the walk over the entries from `at` on
   unfoldable pub walkEntries : List ℕ → ℕ → ℕ → Met → Answer Found
   walkEntries b at number m =
       let es = entriesOf at (drop at b) in
       cond (es .fills) (given (seek number m (es .items))) (refused 26)
 
-  -- The walk over the descriptors from `at` to `stop`, and then over the entries from `stop` on
+  -- the walk over the descriptors from `at` to `stop`, and then over the entries from `stop` on
   unfoldable pub walkDescriptors : List ℕ → ℕ → ℕ → ℕ → Met → Answer Found
   walkDescriptors b at stop number m =
       let ds = descriptorsOf at (slice at stop b) in
       let es = entriesOf stop (drop stop b) in
       cond (ds .fills && es .fills) (given (seek (number + 1) (seekIn number m (ds .items)) (es .items))) (refused 26)
 
-  -- What the walk over a section's body finds
+  -- what the walk over a section's body finds
   abbrev pub foundIn : List ℕ → Found
   foundIn s = seek 1 (seekIn 0 (met 0 0) (programOf s .items)) (streamsOf s .items)
 
-  -- What walking over the body of a section answers, where all before its loops passes
+  -- what walking over the body of a section answers, where all before its loops passes
   abbrev pub bodyWalkedOf : List ℕ → Answer Found
   bodyWalkedOf s = judge refused (pmtLoops s) (given (foundIn s))
 
-  -- What judging a section and walking over its body answers
+  -- what judging a section and walking over its body answers
   abbrev pub pmtWalkedOf : List ℕ → Answer Found
   pmtWalkedOf s = judge refused (pmtRefusals s) (given (foundIn s))

@@ -4,7 +4,7 @@ use mathlib.Core.Path.{_≡_, sym, _∙_, ap}
 use Prim.Native.Nat.{ℕ, _+_}
 use native.Mathlib.Omega.{arith}
 use Rattle.ground.specs.Answer.{given}
-use Rattle.tables.specs.Pmt.{descriptorAt, placeOf, pmtRefusals, descriptorMissing}
+use Rattle.tables.specs.Pmt.{descriptorAt, descriptorPlace, pmtRefusals, descriptorMissing}
 use Rattle.tables.specs.Steps.Walk.{Met, met, foundIn, toldWalked, pmtWalkedOf}
 use Rattle.tables.proofs.Answers.{loop-missing, descriptor-missing, descriptor-inside, descriptor-there}
 use Rattle.ground.proofs.Judged.{stays-refused}
@@ -59,7 +59,7 @@ returns-3 c =
     let a = c .before .before .before .before .before .args in
     let s = a .section .now in
     let e = sym (c .before .before .before .walk-pmt .ensures) ∙ ap toldWalked (c .before .walked .given .1) in
-    sym (stays-refused (foundIn (a .number) (a .index + 1) s) (placeOf (descriptorAt s (a .number) (a .index))) (pmtRefusals s) _ e (descriptorMissing s (a .number) (a .index)))
+    sym (stays-refused (foundIn (a .number) (a .index + 1) s) (descriptorPlace (descriptorAt s (a .number) (a .index))) (pmtRefusals s) _ e (descriptorMissing s (a .number) (a .index)))
 
 returns-4 : tie.Need-returns-4
 returns-4 c =
