@@ -13,9 +13,17 @@ RATTLE = re.compile(r"^ *(?:pub(?:\([a-z]+\))? )?(?:fn|struct|enum|const|mod) (\
 RUST = re.compile(r"^ *(?:pub(?:\([a-z]+\))? )?(?:fn|struct|enum|const|static|mod|type) (\w+)|^ *(?:pub )?(\w+)(?:: |\(|,| \{)")
 
 
+IMPORT = re.compile(r"^(?:ghost )?(?:pub )?use [^;{}\n]*\{[^}]*\}", re.M)
+
+
+def lines_of(path):
+    """The lines of a file, with each import on one line."""
+    return IMPORT.sub(lambda m: re.sub(r"\s*\n\s*", " ", m[0]).replace("{ ", "{").replace(", }", "}"), path.read_text()).splitlines()
+
+
 def code_lines(path):
     """How many lines of a file are neither blank nor comment nor an import."""
-    return sum(1 for line in path.read_text().splitlines() if line.strip() and not line.strip().startswith(("--", "//", "use ", "ghost use ")))
+    return sum(1 for line in lines_of(path) if line.strip() and not line.strip().startswith(("--", "//", "use ", "ghost use ")))
 
 
 class Antt:
@@ -27,7 +35,7 @@ class Antt:
         self.bodies = {}  # a declaration: its text
         self.brought = {}  # a name brought in: (module, name there)
         self.aliases = {}  # a module's short name: the module
-        self.read(path.read_text().splitlines())
+        self.read(lines_of(path))
 
     def read(self, lines):
         current, indent, is_block, sections = None, 0, False, [0]
@@ -123,7 +131,7 @@ def programs():
 def ghost_uses(path):
     """What a source file brings into its contracts."""
     brought, aliases = {}, {}
-    for line in path.read_text().splitlines():
+    for line in lines_of(path):
         m = USE.match(line)
         if not m or not line.startswith("ghost"):
             continue

@@ -12,6 +12,8 @@ use Rattle.pes.proofs.Claims as headers
 use Rattle.gather.proofs.Claims as gathering
 use Rattle.driver.proofs.Claims as filters
 use Rattle.text.proofs.Claims as texts
+use Rattle.lines.proofs.Claims as listed
+use Rattle.pieces.proofs.Claims as inputs
 use Rattle.runs.specs.Promises.{DemandThreeHolds}
 use Rattle.stars.specs.Stars.{EveryCase}
 use Rattle.claims.specs.Claims.{EveryClaim}
@@ -30,6 +32,8 @@ every-claim =
       gather = gathering.claims;
       driver = filters.claims;
       text = texts.claims;
+      lines = listed.claims;
+      pieces = inputs.claims;
       demandThree = stated DemandThreeHolds;
       everyCase = stated EveryCase;
     }

@@ -11,11 +11,13 @@ use Rattle.pes.specs.Claims as headers
 use Rattle.gather.specs.Claims as gathering
 use Rattle.driver.specs.Claims as filters
 use Rattle.text.specs.Claims as texts
+use Rattle.lines.specs.Claims as listed
+use Rattle.pieces.specs.Claims as inputs
 use Rattle.runs.specs.Promises.{DemandThreeHolds}
 use Rattle.stars.specs.Stars.{EveryCase}
 
 pub record EveryClaim : Type 0 where
-  -- numbers of several bytes, bytes stored and copied
+  -- numbers of several bytes, a byte or 0, the lesser of two
   pub octets : bytes.Claims
   -- PIDs
   pub pid : pids.Claims
@@ -37,6 +39,10 @@ pub record EveryClaim : Type 0 where
   pub driver : filters.Claims
   -- the text that a program prints
   pub text : texts.Claims
+  -- the lines that the listing prints
+  pub lines : listed.Claims
+  -- its input, however it is cut into reads
+  pub pieces : inputs.Claims
   -- the functions that state something have one answer too
   pub demandThree : Determined (Stated DemandThreeHolds)
   pub everyCase : Determined (Stated EveryCase)

@@ -1,6 +1,1 @@
-pub mod Sections
-pub mod Room
-pub mod Loop
-pub mod Rest
-pub mod Examples
-pub mod Claims
+pub mod Turns

@@ -1,66 +1,15 @@
 // Lists what the packets of standard input bring to a filter on PID 0.
-mod lines;
-mod packets;
-
-ghost use Prim.Native.Nat.{_≤_};
+ghost use Prim.Native.Nat.{_≤_, _<_};
 ghost use mathlib.Core.Path.{_≡_};
 ghost use lib.ListN.{length};
-ghost use Rattle.ground.specs.Outcome.{Stated};
-ghost use Rattle.listing.specs.Listing.{beginning, most, Fits};
-ghost use Rattle.listing.specs.Claims.{Claims};
-use crate::packets::Progress;
-use driver::Opening;
+ghost use Rattle.ground.specs.House.{packetBytes};
+ghost use Rattle.pieces.specs.Piece.{beginning, toldPiece};
+ghost use Rattle.pieces.specs.Turns.{Fits, betweenOf, turnIn};
+ghost use Rattle.listing.specs.Listing.{ReadsBehind, TakesTurn, ListsInput};
 use libc::STDIN_FILENO;
 use libc::STDOUT_FILENO;
-use packet::PACKET_BYTES;
-use pid::Pid;
-
-// The first progress, and whether its filter is open.
-struct First {
-    progress: Progress,
-    is_open: bool,
-}
-
-// After a piece: how many bytes of a packet are at the piece's start already, and whether to go on.
-struct Step {
-    progress: Progress,
-    rest: usize,
-    is_on: bool,
-}
-
-// True, and with it what is claimed of the lines.
-fn stated() -> bool
-    ensures { λ r. ⌜ Stated Claims r ⌝ }
-{
-    true
-}
-
-// A fresh state with a filter on PID 0.
-fn begin() -> First
-    ensures { λ r. ⌜ r ≡ beginning ⌝ }
-{
-    let opened = driver::open(driver::fresh(), Pid::PROGRAM_ASSOCIATION);
-    let state = opened.state;
-    let answer = opened.answer;
-    let progress = Progress {
-        state,
-        index: 0,
-        at: 0,
-    };
-    match answer {
-        Opening::Open {
-            number: _,
-            place: _,
-        } => First {
-            progress,
-            is_open: true,
-        },
-        Opening::Refused(_) => First {
-            progress,
-            is_open: false,
-        },
-    }
-}
+use pieces::Brought;
+use pieces::Step;
 
 // Writes the text.
 fn write(text: &[u8], size: usize) -> bool {
@@ -72,13 +21,23 @@ fn write(text: &[u8], size: usize) -> bool {
 }
 
 // Reads on behind the bytes that are there.
-fn read_on(piece: &mut [u8], rest: usize) -> isize {
-    let from = lines::further(0, rest, piece.len());
-    libc::read(STDIN_FILENO, &mut piece[from..])
+fn read_on(piece: &mut [u8], rest: usize) -> Brought
+    requires { ⌜ rest ≤ length (now piece) ⌝ }
+    ensures { λ r. ⌜ ReadsBehind rest (now (piece .entry)) r (now (piece .exit)) ⌝ }
+{
+    let got = libc::read(STDIN_FILENO, &mut piece[rest..]);
+    if got < 0 {
+        os::fail(b"standard input");
+        return Brought::Failure;
+    }
+    if got == 0 {
+        return Brought::End;
+    }
+    Brought::Bytes(io::count(got, &piece[rest..]))
 }
 
-// A piece read, its packets listed, and their lines written.
-fn list_some(
+// A read, what it brings listed, and the lines written.
+fn read_and_list(
     step: Step,
     piece: &mut [u8],
     store: &mut [u8],
@@ -86,66 +45,32 @@ fn list_some(
     text: &mut [u8],
 ) -> Step
     requires { ⌜ Fits (now piece) (now text) ⌝ }
+    requires { ⌜ step .rest < packetBytes ⌝ }
+    ensures { λ r. ⌜ r .rest < packetBytes ⌝ }
+    ensures { λ r. ⌜ TakesTurn (betweenOf step (now (piece .entry)) (now (store .entry)) (now (out .entry)))
+        (turnIn (toldPiece r (now (piece .exit)) (now (store .exit)) (now (out .exit)) (now (text .exit)))) ⌝ }
 {
-    let got = read_on(piece, step.rest);
-    if got <= 0 {
-        return list_end(step, got < 0, piece, store, out, text);
-    }
-    let end = lines::further(step.rest, io::count(got, piece), piece.len());
-    let progress = step.progress;
-    let progress = packets::list_piece(progress, piece, end, store, out, text);
-    Step {
-        progress,
-        rest: end % PACKET_BYTES,
-        is_on: write(text, progress.at),
-    }
+    let brought = read_on(piece, step.rest);
+    let mut next = pieces::list_read(step, brought, piece, store, out, text);
+    let is_written = write(text, next.progress.at);
+    next.is_on = next.is_on & is_written;
+    next
 }
 
-// The end of the input: bytes that are no whole packet, or what went wrong.
-fn list_end(
-    step: Step,
-    is_error: bool,
-    piece: &[u8],
-    store: &mut [u8],
-    out: &mut [u8],
-    text: &mut [u8],
-) -> Step
-    requires { ⌜ most ≤ length (now text) ⌝ }
-{
-    let mut last = step;
-    last.is_on = false;
-    if is_error {
-        os::fail(b"standard input");
-        return last;
-    }
-    if 0 < step.rest {
-        let progress = step.progress;
-        let progress = packets::list_last(
-            progress,
-            text::first(piece, step.rest),
-            store,
-            out,
-            text,
-        );
-        write(text, progress.at);
-    }
-    last
-}
-
+// The whole input listed, from a fresh state with a filter on PID 0.
 // A proved loop has to end, and nothing says that an input does, so it counts down from a number that no run uses up.
-fn list_all(progress: Progress, piece: &mut [u8], store: &mut [u8], out: &mut [u8], text: &mut [u8])
+fn list_all(piece: &mut [u8], store: &mut [u8], out: &mut [u8], text: &mut [u8]) -> Step
     requires { ⌜ Fits (now piece) (now text) ⌝ }
+    ensures { λ r. ⌜ ListsInput (betweenOf beginning (now (piece .entry)) (now (store .entry)) (now (out .entry)))
+        (betweenOf r (now (piece .exit)) (now (store .exit)) (now (out .exit))) (r .«is_on») ⌝ }
 {
-    let mut step = Step {
-        progress,
-        rest: 0,
-        is_on: true,
-    };
+    let mut step = pieces::begin();
     let mut turns = u64::MAX;
     while (0 < turns) & step.is_on {
-        step = list_some(step, piece, store, out, text);
+        step = read_and_list(step, piece, store, out, text);
         turns -= 1;
     }
+    step
 }
 
 // A piece of 64 packets.
@@ -167,14 +92,8 @@ fn main() {
     let mut store = [0u8; driver::STORE_BYTES];
     let mut out = [0u8; gather::LEAST_OUTPUT];
     let mut text = new_text();
-    let first = begin();
-    if !first.is_open {
-        os::fail(b"the filter on PID 0");
-        return;
-    }
     let end = lines::header(&mut text, 0);
     if write(&text, end) {
-        let progress = first.progress;
-        list_all(progress, &mut piece, &mut store, &mut out, &mut text);
+        list_all(&mut piece, &mut store, &mut out, &mut text);
     }
 }

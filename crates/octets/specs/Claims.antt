@@ -2,7 +2,7 @@
 use mathlib.Core.List.{List}
 use Prim.Native.Nat.{ℕ}
 use Rattle.ground.specs.Outcome.{Determined}
-use Rattle.octets.specs.Promises.{ReadsTwo, ReadsThree, ReadsFive, ReadsSix, ReadsByte, GivesLesser}
+use Rattle.octets.specs.Promises.{ReadsTwo, ReadsThree, ReadsFive, ReadsSix, ReadsByte, GivesLesser, GoesFurther}
 
 pub record Claims : Type 0 where
   -- any two outcomes that a promise admits are equal
@@ -12,3 +12,4 @@ pub record Claims : Type 0 where
   pub readsSix : (a b c d e f : ℕ) → Determined (ReadsSix a b c d e f)
   pub readsByte : (bytes : List ℕ) (place : ℕ) → Determined (ReadsByte bytes place)
   pub givesLesser : (a b : ℕ) → Determined (GivesLesser a b)
+  pub goesFurther : (place bytes end : ℕ) → Determined (GoesFurther place bytes end)

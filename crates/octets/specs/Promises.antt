@@ -1,7 +1,7 @@
 -- What each public call promises.
 use mathlib.Core.Path.{_≡_}
 use mathlib.Core.List.{List, [], _∷_}
-use Prim.Native.Nat.{ℕ, min}
+use Prim.Native.Nat.{ℕ, _+_, min}
 use lib.ListN.{getD}
 use Rattle.ground.specs.Number.{numberOf}
 
@@ -28,3 +28,7 @@ ReadsByte bytes place r = r ≡ getD bytes place 0
 -- `lesser`
 abbrev pub GivesLesser : ℕ → ℕ → ℕ → Type 0
 GivesLesser a b r = r ≡ min a b
+
+-- `further`: past the end it is the end
+abbrev pub GoesFurther : ℕ → ℕ → ℕ → ℕ → Type 0
+GoesFurther place bytes end r = r ≡ min (place + bytes) end

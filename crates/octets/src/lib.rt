@@ -1,5 +1,5 @@
 // Bytes: numbers of several, most significant byte first, and a byte that may be missing.
-ghost use Rattle.octets.specs.Promises.{ReadsTwo, ReadsThree, ReadsFive, ReadsSix, ReadsByte, GivesLesser};
+ghost use Rattle.octets.specs.Promises.{ReadsTwo, ReadsThree, ReadsFive, ReadsSix, ReadsByte, GivesLesser, GoesFurther};
 
 // The 16 bits of two bytes.
 pub fn number_of_two(a: u8, b: u8) -> u16
@@ -47,4 +47,16 @@ pub fn lesser(a: usize, b: usize) -> usize
         return a;
     }
     b
+}
+
+// A place so many bytes further, or the end.
+pub fn further(place: usize, bytes: usize, end: usize) -> usize
+    ensures { λ r. ⌜ GoesFurther place bytes end r ⌝ }
+{
+    if place < end {
+        if bytes < end - place {
+            return place + bytes;
+        }
+    }
+    end
 }

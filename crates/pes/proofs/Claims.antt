@@ -2,7 +2,7 @@
 -- Assumes nothing.
 use Rattle.ground.proofs.Judged.{exact}
 use Rattle.ground.proofs.Outcome.{determined-told}
-use Rattle.pes.specs.Header.{toldReading, contentsOf, headerRefusals, readHeader}
+use Rattle.pes.specs.Header.{toldReading, headerContents, pesRefusals, readHeader}
 use Rattle.pes.specs.Claims.{Claims}
 use Rattle.pes.proofs.Accepted.{accepted}
 use Rattle.pes.proofs.Told.{madeReading, back-reading}
@@ -11,6 +11,6 @@ pub claims : Claims
 claims =
     record {
       readsHeader = λ s. determined-told toldReading madeReading back-reading (readHeader s);
-      exact = λ s. exact (headerRefusals s) (contentsOf s);
+      exact = λ s. exact (pesRefusals s) (headerContents s);
       accepted = accepted;
     }

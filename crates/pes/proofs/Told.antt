@@ -3,7 +3,7 @@
 use mathlib.Core.Path.{_≡_, refl}
 use Rattle.ground.specs.Answer.{Answer, refused, given}
 use Rattle.pes.specs.Stamps.{Times, none, pts, both, toldStamps}
-use Rattle.pes.specs.Header.{Full, Contents, full, bare, toldReading}
+use Rattle.pes.specs.Header.{Full, HeaderContents, full, bare, toldReading}
 use Rattle.pes.specs.declared.stamps.Stamps.{Stamps}
 use Rattle.pes.specs.declared.stamps.Stamps.the-variants as stamps
 use Rattle.pes.specs.declared.Header.{Header}
@@ -35,7 +35,7 @@ madeHeader h =
       extension = h .extension;
     }
 
-abbrev pub madeReading : Answer Contents → Reading
+abbrev pub madeReading : Answer HeaderContents → Reading
 madeReading (given (full h)) = reading.Value (madeHeader h)
 madeReading (given (bare id size)) = reading.Bare id size
 madeReading (refused n) = reading.Refused n

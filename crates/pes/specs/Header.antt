@@ -27,9 +27,9 @@ pub record Full : Type 0 where
   pub extension : Bool
 
 -- "for an id without optional header, stream_id and packet length only"
-pub data Contents : Type 0 where
-  full : Full → Contents
-  bare : ℕ → ℕ → Contents
+pub data HeaderContents : Type 0 where
+  full : Full → HeaderContents
+  bare : ℕ → ℕ → HeaderContents
 
 -- what a reading says in document 01's terms
 abbrev pub toldHeader : Header → Full
@@ -48,7 +48,7 @@ toldHeader h =
     }
 
 -- the same of the call's answer
-abbrev pub toldReading : Reading → Answer Contents
+abbrev pub toldReading : Reading → Answer HeaderContents
 toldReading (reading.Value h) = given (full (toldHeader h))
 toldReading (reading.Bare id size) = given (bare id size)
 toldReading (reading.Refused n) = refused n
@@ -63,8 +63,8 @@ abbrev pub packetLengthOf : List ℕ → ℕ
 packetLengthOf s = numberAt s 4 2
 
 -- the second byte of flags
-abbrev pub flagsOf : List ℕ → ℕ
-flagsOf s = getD s 7 0
+abbrev pub secondFlags : List ℕ → ℕ
+secondFlags s = getD s 7 0
 
 -- PES_header_data_length
 abbrev pub headerLengthOf : List ℕ → ℕ
@@ -86,8 +86,8 @@ fieldsSize flags =
     + bits flags 0 1
 
 -- "Refusal 35 if the sum passes the header length, or a PES_packet_length other than 0 is below 3 + header length"
-abbrev pub isOver : ℕ → ℕ → ℕ → Bool
-isOver packetLength fields headerLength = ltb headerLength fields || (not (eqb packetLength 0) && ltb packetLength (3 + headerLength))
+abbrev pub passesLength : ℕ → ℕ → ℕ → Bool
+passesLength packetLength fields headerLength = ltb headerLength fields || (not (eqb packetLength 0) && ltb packetLength (3 + headerLength))
 
 -- ---- the table
 -- "PES: 30 (under 6 bytes), 31, 32, 37"
@@ -104,14 +104,14 @@ abbrev pub optionalRefusals : List ℕ → List Row
 optionalRefusals s =
     (30 when ltb (length s) 9)
     ∷ (33 when not (eqb (bits (getD s 6 0) 6 2) 2))
-    ∷ (34 when eqb (codeOf (flagsOf s)) 1)
-    ∷ (35 when isOver (packetLengthOf s) (fieldsSize (flagsOf s)) (headerLengthOf s))
+    ∷ (34 when eqb (codeOf (secondFlags s)) 1)
+    ∷ (35 when passesLength (packetLengthOf s) (fieldsSize (secondFlags s)) (headerLengthOf s))
     ∷ (30 when ltb (length s) (9 + headerLengthOf s))
-    ∷ stampRefusals s (codeOf (flagsOf s))
+    ∷ stampRefusals s (codeOf (secondFlags s))
 
 -- "those after 37 only for an id with an optional header"
-abbrev pub headerRefusals : List ℕ → List Row
-headerRefusals s = startRefusals s ++ cond (isBare (idOf s)) [] (optionalRefusals s)
+abbrev pub pesRefusals : List ℕ → List Row
+pesRefusals s = startRefusals s ++ cond (isBare (idOf s)) [] (optionalRefusals s)
 
 -- ---- what is read
 -- the header with these stamps
@@ -122,22 +122,22 @@ fullOf s times =
       packetLength = packetLengthOf s;
       headerLength = headerLengthOf s;
       stamps = times;
-      escr = isFlagged (flagsOf s) 5;
-      rate = isFlagged (flagsOf s) 4;
-      trick = isFlagged (flagsOf s) 3;
-      copy = isFlagged (flagsOf s) 2;
-      crc = isFlagged (flagsOf s) 1;
-      extension = isFlagged (flagsOf s) 0;
+      escr = isFlagged (secondFlags s) 5;
+      rate = isFlagged (secondFlags s) 4;
+      trick = isFlagged (secondFlags s) 3;
+      copy = isFlagged (secondFlags s) 2;
+      crc = isFlagged (secondFlags s) 1;
+      extension = isFlagged (secondFlags s) 0;
     }
 
 -- the header of an id with an optional header
-abbrev pub optionalOf : List ℕ → Contents
-optionalOf s = full (fullOf s (stampsOf s (codeOf (flagsOf s))))
+abbrev pub optionalOf : List ℕ → HeaderContents
+optionalOf s = full (fullOf s (stampsOf s (codeOf (secondFlags s))))
 
 -- the header of any id
-abbrev pub contentsOf : List ℕ → Contents
-contentsOf s = cond (isBare (idOf s)) (bare (idOf s) (packetLengthOf s)) (optionalOf s)
+abbrev pub headerContents : List ℕ → HeaderContents
+headerContents s = cond (isBare (idOf s)) (bare (idOf s) (packetLengthOf s)) (optionalOf s)
 
 -- a PES header read
-abbrev pub readHeader : List ℕ → Answer Contents
-readHeader s = judge refused (headerRefusals s) (given (contentsOf s))
+abbrev pub readHeader : List ℕ → Answer HeaderContents
+readHeader s = judge refused (pesRefusals s) (given (headerContents s))

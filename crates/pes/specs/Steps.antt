@@ -4,7 +4,7 @@ use Prim.Native.Nat.{ℕ}
 use Rattle.ground.specs.Answer.{Answer, refused, given}
 use Rattle.ground.specs.Refusal.{judge}
 use Rattle.pes.specs.Stamps.{Times, toldStamps, stampRefusals, stampsOf}
-use Rattle.pes.specs.Header.{Contents, optionalRefusals, optionalOf}
+use Rattle.pes.specs.Header.{HeaderContents, optionalRefusals, optionalOf}
 use Rattle.pes.specs.declared.stamps.Stamped.{Stamped}
 use Rattle.pes.specs.declared.stamps.Stamped.the-variants as stamped
 
@@ -18,5 +18,5 @@ abbrev pub readStamps : List ℕ → ℕ → Answer Times
 readStamps s code = judge refused (stampRefusals s code) (given (stampsOf s code))
 
 -- the optional header, judged
-abbrev pub readOptional : List ℕ → Answer Contents
+abbrev pub readOptional : List ℕ → Answer HeaderContents
 readOptional s = judge refused (optionalRefusals s) (given (optionalOf s))

@@ -3,7 +3,7 @@ ghost use mathlib.Core.Path.{_≡_};
 ghost use Prim.Native.Nat.{_≤_};
 ghost use lib.ListN.{getD};
 ghost use Rattle.ground.specs.Number.{numberAt};
-ghost use Rattle.pes.specs.Header.{toldReading, fieldsSize, isOver};
+ghost use Rattle.pes.specs.Header.{toldReading, fieldsSize, passesLength};
 ghost use Rattle.pes.specs.Promises.{ReadsHeader};
 ghost use Rattle.pes.specs.Steps.{readOptional};
 use crate::stamps::Stamped;
@@ -50,7 +50,7 @@ fn fields_size(flags: u8) -> u16
 
 // Whether the header's fields do not fit its length, or the header not the packet's.
 fn is_over(size: u16, fields: u16, header: u8) -> bool
-    ensures { λ r. ⌜ r ≡ isOver size fields header ⌝ }
+    ensures { λ r. ⌜ r ≡ passesLength size fields header ⌝ }
 {
     ((header as u16) < fields) | ((size != 0) & (size < 3 + (header as u16)))
 }

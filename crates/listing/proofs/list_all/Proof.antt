@@ -1,39 +1,67 @@
--- The count of turns falls, and no buffer changes its length.
+-- What was listed so far, and one turn more; the count of turns falls, and no buffer changes its length.
 -- Assumes nothing.
-use mathlib.Core.Path.{_≡_, refl}
+use mathlib.Core.Path.{_≡_, refl, sym, subst}
+use mathlib.Core.Bool.{true}
 use Prim.Native.Nat.{_<_}
 use native.Mathlib.Omega.{arith}
 use lib.Dec.{ltb}
 use lib.ListN.{length}
+use denote.Ref.{now}
 use borrow.Author.Needs.{needs}
 use borrow.Author.Tests.{ltb-true}
 use Rattle.ground.proofs.Test.{both-true}
+use Rattle.pieces.specs.Input.{Between}
+use Rattle.pieces.specs.Piece.{beginning}
+use Rattle.pieces.specs.Turns.{betweenOf}
+use Rattle.listing.specs.Listing.{ListsInput}
+use Rattle.pieces.specs.declared.reads.Step.{Step}
+use Rattle.listing.proofs.Turns.{lists-none, lists-on}
 use Rattle.listing.proofs.list_all.Statement.{statement}
 use Rattle.listing.proofs.list_all.Tie as tie
 
 abbrev Inv-loop : tie.InvT-loop
 Inv-loop piece₀ store₀ out₀ text₀ step₀ turns₀ piece store out text step turns =
     (length piece ≡ length piece₀) × (length store ≡ length store₀) × (length out ≡ length out₀) × (length text ≡ length text₀)
+    × (step .rest < 188)
+    × ListsInput (betweenOf beginning piece₀ store₀ out₀) (betweenOf step piece store out) (step .«is_on»)
 
 abbrev μ-loop : tie.MeasureT-loop
 μ-loop piece₀ store₀ out₀ text₀ step₀ turns₀ piece store out text step turns = turns
 
-loop-holds : tie.Need-loop-holds Inv-loop μ-loop
-loop-holds c = (refl, refl, refl, refl)
+begin-requires : tie.Need-begin-requires Inv-loop μ-loop
+begin-requires c κs = search needs
 
-list-some-requires : tie.Need-list-some-requires Inv-loop μ-loop
-list-some-requires c κs =
+loop-holds : tie.Need-loop-holds Inv-loop μ-loop
+loop-holds c =
+    let a = c .before .before .before .before .before .args in
+    let b : Step → Between = λ (s : Step). betweenOf s (now (a .piece)) (now (a .store)) (now (a .out)) in
+    let begun = sym (c .begin .ensures) in
+    let none = lists-none (b beginning) true (omega arith) in
+    (refl, refl, refl, refl, subst (λ (s : Step). s .rest < 188) begun (omega arith), subst (λ (s : Step). ListsInput (b beginning) (b s) (s .«is_on»)) begun none)
+
+read-and-list-requires : tie.Need-read-and-list-requires Inv-loop μ-loop
+read-and-list-requires c κs =
     let inv = c .before .before .before .before .before .before .loop .inv in
-    record { packet = rw (inv .0) (c .before .before .before .before .before .before .before .before .before .before .before .pre .packet); room = rw (inv .0, inv .3) (c .before .before .before .before .before .before .before .before .before .before .before .pre .room) }
+    let fits = c .before .before .before .before .before .before .before .before .before .before .before .before .pre in
+    (record { packet = rw (inv .0) (fits .packet); room = rw (inv .0, inv .3) (fits .room) }, inv .4)
 
 sub-turns : tie.Need-sub-turns Inv-loop μ-loop
-sub-turns c = ltb-true 0 (c .before .before .before .before .before .before .before .before .before .before .before .before .before .before .before .loop .turns) (both-true (ltb 0 (c .before .before .before .before .before .before .before .before .before .before .before .before .before .before .before .loop .turns)) (c .before .before .before .before .before .before .before .before .before .before .before .before .before .before .before .loop .step .«is_on») (c .before .before .before .before .before .before .before .before .before .before .before .before .before .if1 .taken) .0)
+sub-turns c =
+    let l = c .before .before .before .before .before .before .before .before .before .before .before .before .before .before .before .loop in
+    ltb-true 0 (l .turns) (both-true (ltb 0 (l .turns)) (l .step .«is_on») (c .before .before .before .before .before .before .before .before .before .before .before .before .before .if1 .taken) .0)
 
 loop-less : tie.Need-loop-less Inv-loop μ-loop
-loop-less c = let some : 0 < c .before .before .before .before .before .before .before .before .before .before .before .before .before .before .before .loop .turns = ltb-true 0 (c .before .before .before .before .before .before .before .before .before .before .before .before .before .before .before .loop .turns) (both-true (ltb 0 (c .before .before .before .before .before .before .before .before .before .before .before .before .before .before .before .loop .turns)) (c .before .before .before .before .before .before .before .before .before .before .before .before .before .before .before .loop .step .«is_on») (c .before .before .before .before .before .before .before .before .before .before .before .before .before .if1 .taken) .0) in omega arith
+loop-less c =
+    let l = c .before .before .before .before .before .before .before .before .before .before .before .before .before .before .before .loop in
+    let some = ltb-true 0 (l .turns) (both-true (ltb 0 (l .turns)) (l .step .«is_on») (c .before .before .before .before .before .before .before .before .before .before .before .before .before .if1 .taken) .0) in
+    omega arith
 
 loop-again : tie.Need-loop-again Inv-loop μ-loop
-loop-again c = (search needs, search needs, search needs, search needs)
+loop-again c =
+    let l = c .before .before .before .before .before .before .before .before .before .before .before .before .before .before .before .loop in
+    let on = both-true (ltb 0 (l .turns)) (l .step .«is_on») (c .before .before .before .before .before .before .before .before .before .before .before .before .before .if1 .taken) .1 in
+    let turn = c .before .before .before .before .before .before .before .before .read-and-list .ensures in
+    (search needs, search needs, search needs, search needs, turn .0, lists-on _ _ _ _ on (l .inv .5) (turn .1))
 
 same-length : tie.Need-same-length Inv-loop μ-loop
 same-length c = search needs
@@ -48,7 +76,7 @@ same-length-4 : tie.Need-same-length-4 Inv-loop μ-loop
 same-length-4 c = search needs
 
 returns : tie.Need-returns Inv-loop μ-loop
-returns c = search needs
+returns c = c .before .before .loop .inv .5
 
 pub list-all-spec : {M : Type 1} → statement M
 list-all-spec =
@@ -56,8 +84,9 @@ list-all-spec =
     (tie.spec
     Inv-loop
     μ-loop
+    begin-requires
     loop-holds
-    list-some-requires
+    read-and-list-requires
     sub-turns
     loop-less
     loop-again

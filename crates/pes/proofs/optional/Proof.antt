@@ -6,7 +6,7 @@ use native.Mathlib.Omega.{arith}
 use denote.Ref.{now}
 use Rattle.ground.proofs.Refusal.{tests}
 use Rattle.pes.specs.Steps.{toldStamped, readOptional}
-use Rattle.pes.specs.Header.{flagsOf}
+use Rattle.pes.specs.Header.{secondFlags}
 use Rattle.pes.specs.declared.stamps.Stamped.{Stamped}
 use Rattle.ground.proofs.Judged.{mapped}
 use Rattle.pes.proofs.Lengths.{withStamps, after-lengths, fields-fit}
@@ -83,7 +83,7 @@ returns-7 : tie.Need-returns-7
 returns-7 c =
     let at = c .before .before .before in
     let start = at .before .before .before .before .before .before .before .before .before .before .before .before in
-    let flags = flagsOf (now (start .args .bytes)) in
+    let flags = secondFlags (now (start .args .bytes)) in
     rw (← start .pre .1, ← start .pre .0, div-one flags) (rw (div-one flags) at (reads at _ (c .before .stamped2 .given .1)))
 
 pub optional-spec : {M : Type 1} → statement M

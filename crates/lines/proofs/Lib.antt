@@ -1,0 +1,4 @@
+pub mod SectionLines
+pub mod Room
+pub mod Examples
+pub mod Claims
