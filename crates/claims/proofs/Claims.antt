@@ -10,6 +10,11 @@ use Rattle.packet.proofs.Claims as packets
 use Rattle.tables.proofs.Claims as sections
 use Rattle.pes.proofs.Claims as headers
 use Rattle.gather.proofs.Claims as gathering
+use Rattle.state.proofs.Claims as states
+use Rattle.sound.proofs.Claims as soundness
+use Rattle.open_call.proofs.Claims as opening
+use Rattle.close_call.proofs.Claims as closing
+use Rattle.packet_call.proofs.Claims as handling
 use Rattle.driver.proofs.Claims as filters
 use Rattle.text.proofs.Claims as texts
 use Rattle.lines.proofs.Claims as listed
@@ -30,6 +35,11 @@ every-claim =
       tables = sections.claims;
       pes = headers.claims;
       gather = gathering.claims;
+      state = states.claims;
+      sound = soundness.claims;
+      openCall = opening.claims;
+      closeCall = closing.claims;
+      packetCall = handling.claims;
       driver = filters.claims;
       text = texts.claims;
       lines = listed.claims;

@@ -9,6 +9,11 @@ use Rattle.packet.specs.Claims as packets
 use Rattle.tables.specs.Claims as sections
 use Rattle.pes.specs.Claims as headers
 use Rattle.gather.specs.Claims as gathering
+use Rattle.state.specs.Claims as states
+use Rattle.sound.specs.Claims as soundness
+use Rattle.open_call.specs.Claims as opening
+use Rattle.close_call.specs.Claims as closing
+use Rattle.packet_call.specs.Claims as handling
 use Rattle.driver.specs.Claims as filters
 use Rattle.text.specs.Claims as texts
 use Rattle.lines.specs.Claims as listed
@@ -35,7 +40,17 @@ pub record EveryClaim : Type 0 where
   pub pes : headers.Claims
   -- from payload to sections
   pub gather : gathering.Claims
-  -- open, close and the packet call
+  -- the state, and what is searched in it
+  pub state : states.Claims
+  -- soundness
+  pub sound : soundness.Claims
+  -- open
+  pub openCall : opening.Claims
+  -- close
+  pub closeCall : closing.Claims
+  -- the packet call
+  pub packetCall : handling.Claims
+  -- the three calls together
   pub driver : filters.Claims
   -- the text that a program prints
   pub text : texts.Claims

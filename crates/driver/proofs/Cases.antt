@@ -9,20 +9,20 @@ use native.Mathlib.Omega.{arith}
 use borrow.Author.Tests.{ltb-false, leb-false, leb-true, eqb-true, not-true, not-false}
 use lib.Dec.{leb, eqb, ltb, lit<}
 use lib.ListN.{length, getD}
-use Rattle.ground.proofs.Test.{neither}
 use Rattle.ground.specs.Answer.{refused, given}
 use Rattle.ground.specs.Refusal.{Silent}
+use Rattle.ground.proofs.Test.{neither}
+use Rattle.ground.proofs.Judged.{judge-ind}
 use Rattle.packet.specs.Packet.{headerOf, contents}
 use Rattle.packet.specs.Payload.{payloadOf}
 use Rattle.packet.proofs.PayloadSize.{at-most-184}
 use Rattle.gather.specs.Memory.{contradictsOf}
-use Rattle.driver.specs.State.{areaOf, areaStart, freeArea, freePlaceOf, placeOf}
-use Rattle.driver.specs.Sound.{sound}
-use Rattle.driver.specs.Open as opening
-use Rattle.driver.specs.Close as closing
-use Rattle.driver.specs.Packet.{AfterPacket, asGiven, unwanted, pidOf, firstRefusals, lastRefusals, outcome, putBack, afterTests, afterReading, packetOf}
-use Rattle.driver.specs.declared.state.State.{State}
-use Rattle.ground.proofs.Judged.{judge-ind}
+use Rattle.state.specs.State.{areaOf, areaStart, freeArea, freePlaceOf, placeOf}
+use Rattle.state.specs.declared.State.{State}
+use Rattle.sound.specs.Sound.{sound}
+use Rattle.open_call.specs.Open as opening
+use Rattle.close_call.specs.Close as closing
+use Rattle.packet_call.specs.Packet.{AfterPacket, asGiven, unwanted, pidOf, firstRefusals, lastRefusals, outcome, putBack, afterTests, afterReading, packetOf}
 
 -- ---- open
 -- what an accepted open may rely on

@@ -1,12 +1,3 @@
-pub mod Tally
-pub mod Clauses
-pub mod OpenStaysSound
-pub mod CloseStaysSound
-pub mod Places
-pub mod PutBack
-pub mod PacketRead
-pub mod Order
-pub mod Found
 pub mod Cases
 pub mod StaysSound
 pub mod Limits

@@ -9,10 +9,10 @@ use Rattle.ground.specs.Answer.{given}
 use Rattle.ground.proofs.Answer.{given-apart, given-same}
 use Rattle.gather.specs.Memory.{stateOf}
 use Rattle.gather.proofs.RuleKeeps.{rule-keeps}
-use Rattle.driver.specs.State.{areaOf, areaStart, freeArea}
-use Rattle.driver.specs.Packet.{Said, AfterPacket, pidOf, packetFrom, placesOn, outcome, report, unwanted, packetOf}
+use Rattle.state.specs.State.{areaOf, areaStart, freeArea, placesOn}
+use Rattle.state.specs.declared.State.{State}
+use Rattle.packet_call.specs.Packet.{Said, AfterPacket, pidOf, packetFrom, outcome, report, unwanted, packetOf}
 use Rattle.driver.specs.Claims.{Limits}
-use Rattle.driver.specs.declared.state.State.{State}
 use Rattle.driver.proofs.Cases.{Handles, packet-ind}
 
 nothing : Limits unwanted

@@ -6,17 +6,17 @@ use mathlib.Core.List.{List, [], _∷_}
 use Prim.Native.Nat.{ℕ, _≤_}
 use lib.Dec.{leb, eqb}
 use lib.ListN.{length, getD, length-append}
-use Rattle.driver.specs.declared.state.Area.{Area}
 use native.Mathlib.Omega.{arith}
 use borrow.Author.Tests.{eq-eqb, le-ltb, le-leb, lt-leb, ltb-true, not-true}
 use Rattle.ground.specs.Walk.{all, Every}
 use Rattle.ground.proofs.Walk.{find-none, all-at}
 use Rattle.ground.proofs.Write.{put-nil}
 use Rattle.gather.proofs.Stars as gathering
-use Rattle.driver.specs.State.{isUsed, areaOf, freePlaceOf, freeArea}
-use Rattle.driver.specs.Sound.{sound}
-use Rattle.driver.specs.Open.{hasArea, areaFor, openOf}
-use Rattle.driver.specs.Packet.{packetOf, isWrongSize}
+use Rattle.state.specs.State.{isUsed, areaOf, freePlaceOf, freeArea}
+use Rattle.state.specs.declared.Area.{Area}
+use Rattle.sound.specs.Sound.{sound}
+use Rattle.open_call.specs.Open.{hasArea, areaFor, openOf}
+use Rattle.packet_call.specs.Packet.{packetOf, isWrongSize}
 use Rattle.driver.specs.Stars.{Right, cases, eightTaken, lastByteHeld}
 
 -- the sizes are right

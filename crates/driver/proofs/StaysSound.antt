@@ -9,30 +9,31 @@ use native.Mathlib.Omega.{arith}
 use lib.Dec.{leb, eqb, ltb}
 use lib.ListN.{length, getD, set, length-set}
 use lib.Seq.{getD-set-other}
+use Rattle.ground.specs.Answer.{Answer, refused, given}
 use Rattle.ground.proofs.Test.{true-both}
 use Rattle.ground.proofs.Walk.{all-at, all-of, all-set, apart-set, find-passes}
 use Rattle.ground.proofs.Write.{length-put}
+use Rattle.ground.proofs.Frame.{unseen, part-apart}
 use Rattle.packet.specs.Packet.{contents}
+use Rattle.packet.specs.Payload.{payloadOf}
 use Rattle.gather.specs.Rule.{Outcome}
 use Rattle.gather.specs.Memory.{soundMarks, stateOf}
 use Rattle.gather.proofs.RuleKeeps.{rule-keeps}
 use Rattle.gather.proofs.Stored.{house, stays-sound}
-use Rattle.driver.specs.State.{fresh, isUsed, isOpen, isFree, hasPid, areaOf, areaStart, freePlaceOf, placeOf, freeArea, freeFilter}
-use Rattle.driver.specs.Sound.{sound, soundArea, soundFilter, isZeroArea, samePid}
-use Rattle.driver.specs.Open.{areaFor, opened, openOf}
-use Rattle.driver.specs.Close.{withoutFilter, closeOf}
-use Rattle.ground.specs.Answer.{Answer, refused, given}
-use Rattle.packet.specs.Payload.{payloadOf}
-use Rattle.driver.specs.Packet.{Said, unwanted, asGiven, pidOf, outcome, withMarks, putBack, packetOf}
-use Rattle.driver.specs.declared.state.Area.{Area}
+use Rattle.state.specs.State.{fresh, isUsed, isOpen, isFree, hasPid, areaOf, areaStart, freePlaceOf, placeOf, freeArea, freeFilter}
+use Rattle.state.specs.declared.Area.{Area}
+use Rattle.state.specs.declared.State.{State}
+use Rattle.state.proofs.Found.{found-area, found-place}
+use Rattle.sound.specs.Sound.{sound, soundArea, soundFilter, isZeroArea, samePid}
+use Rattle.sound.proofs.Pass.{counted-all}
+use Rattle.sound.proofs.Clauses.{Clauses, sound-tells, sound-says, users-are, used-sound}
+use Rattle.sound.proofs.Pids.{lonely}
+use Rattle.open_call.specs.Open.{areaFor, opened, openOf}
+use Rattle.open_call.proofs.OpenStaysSound as opening
+use Rattle.close_call.specs.Close.{withoutFilter, closeOf}
+use Rattle.close_call.proofs.CloseStaysSound.{closed-clauses}
+use Rattle.packet_call.specs.Packet.{Said, unwanted, asGiven, pidOf, outcome, withMarks, putBack, packetOf}
 use Rattle.driver.specs.Claims.{OnlyArea}
-use Rattle.driver.specs.declared.state.State.{State}
-use Rattle.driver.proofs.Tally.{counted-all}
-use Rattle.driver.proofs.Clauses.{Clauses, sound-tells, sound-says, users-are, used-sound}
-use Rattle.driver.proofs.OpenStaysSound as ko
-use Rattle.driver.proofs.CloseStaysSound.{closed-clauses}
-use Rattle.ground.proofs.Frame.{unseen, part-apart}
-use Rattle.driver.proofs.Found.{found-area, found-place}
 use Rattle.driver.proofs.Cases.{Opens, open-ind, Closes, close-ind, Handles, packet-ind}
 
 pub fresh-sound : sound fresh ≡ true
@@ -42,7 +43,7 @@ fresh-sound = refl
 -- ---- open and close
 pub opens-clauses : (s : State) (pid : ℕ) → Opens s pid → Clauses (opened s pid)
 opens-clauses s pid o =
-    ko.opened-clauses s pid (areaFor pid (s .areas)) (freePlaceOf (s .filters)) (sound-tells s (o .fine)) (o .low) (o .more) (ko.for-pid pid (s .areas)) (o .area) (o .place)
+    opening.opened-clauses s pid (areaFor pid (s .areas)) (freePlaceOf (s .filters)) (sound-tells s (o .fine)) (o .low) (o .more) (opening.for-pid pid (s .areas)) (o .area) (o .place)
     (find-passes isFree (s .filters) freeFilter (o .place))
 
 pub open-sound : (s : State) (pid : ℕ) → sound s ≡ true → sound (openOf s pid .state) ≡ true
@@ -103,8 +104,8 @@ module _ (s : State) (p store out : List ℕ) (eight : length (s .areas) ≡ 8) 
         pids =
             apart-set samePid (s .areas) own (withMarks area result) freeArea (clauses .pids)
             (λ j b n.
-            ko.lonely (withMarks area result) (getD (s .areas) j freeArea)
-            (ap (λ (q : ℕ). hasPid q (getD (s .areas) j freeArea)) (own-used .1) ∙ ko.others (pidOf p) (s .areas) (ko.own (h .area)) (clauses .pids) j b n));
+            lonely (withMarks area result) (getD (s .areas) j freeArea)
+            (ap (λ (q : ℕ). hasPid q (getD (s .areas) j freeArea)) (own-used .1) ∙ opening.others (pidOf p) (s .areas) (opening.own (h .area)) (clauses .pids) j b n));
         filters =
             all-of (soundFilter (s .next) (set (s .areas) own (withMarks area result))) (s .filters) freeFilter
             (λ j b.

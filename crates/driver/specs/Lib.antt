@@ -1,9 +1,2 @@
-pub mod State
-pub mod Sound
-pub mod Open
-pub mod Close
-pub mod Packet
-pub mod Promises
 pub mod Claims
 pub mod Stars
-pub mod Steps

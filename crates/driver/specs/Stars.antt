@@ -8,11 +8,11 @@ use Rattle.ground.specs.House.{storeBytes, lastNumber, leastOutput, lastFilterP
 use Rattle.ground.specs.Answer.{Answer, refused, given}
 use Rattle.ground.specs.Walk.{all}
 use Rattle.ground.specs.Write.{put}
-use Rattle.driver.specs.State.{fresh, isUsed, freePlaceOf}
-use Rattle.driver.specs.Sound.{sound}
-use Rattle.driver.specs.Open.{Place, hasArea, openOf}
-use Rattle.driver.specs.Packet.{packetOf, asGiven}
-use Rattle.driver.specs.declared.state.State.{State}
+use Rattle.state.specs.State.{fresh, isUsed, freePlaceOf}
+use Rattle.state.specs.declared.State.{State}
+use Rattle.sound.specs.Sound.{sound}
+use Rattle.open_call.specs.Open.{Place, hasArea, openOf}
+use Rattle.packet_call.specs.Packet.{packetOf, asGiven}
 
 pub data Case : Type 0 where
   -- after opens on these PIDs, one after the other, an open on this one answers so

@@ -1,10 +1,4 @@
-// The driver: filters on PIDs, the areas that they share, and the packet call that hands out sections.
-mod close_call;
-mod open_call;
-mod packet_call;
-mod sound;
-mod state;
-
+// The driver: filters on PIDs, the areas that they share, and the packet call that hands out sections. A caller needs this crate alone; what is claimed of its calls together is in specs/.
 pub use close_call::Closed;
 pub use close_call::Closing;
 pub use close_call::close;

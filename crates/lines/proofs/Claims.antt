@@ -1,7 +1,7 @@
 -- Each promise is an equation; a packet's lines fit by their law.
 -- Assumes nothing.
 use Rattle.ground.proofs.Outcome.{determined}
-use Rattle.driver.specs.Packet.{toldHandling, pidOf}
+use Rattle.packet_call.specs.Packet.{toldHandling, pidOf}
 use Rattle.text.specs.Text.{withBytes}
 use Rattle.lines.specs.Lines.{headerLine, linesOf}
 use Rattle.lines.specs.Claims.{Claims}

@@ -6,7 +6,7 @@ use mathlib.Core.List.{List, [], _∷_}
 use Prim.Native.Nat.{ℕ}
 use Rattle.text.specs.Text.{decimalOf}
 use Rattle.ground.specs.Answer.{refused, given}
-use Rattle.driver.specs.Packet.{Said, unwanted}
+use Rattle.packet_call.specs.Packet.{Said, unwanted}
 use Rattle.lines.specs.Lines.{linesOf}
 
 -- a packet with one section, and whether it was a jump

@@ -10,8 +10,8 @@ use lib.Dec.{ltb}
 use lib.ListN.{length, getD, drop, length-append}
 use Rattle.ground.specs.Answer.{Answer, refused, given}
 use Rattle.section.specs.Section.{sectionSize}
-use Rattle.driver.specs.Packet.{Said, pidOf, packetOf}
-use Rattle.driver.specs.declared.state.State.{State}
+use Rattle.packet_call.specs.Packet.{Said, pidOf, packetOf}
+use Rattle.state.specs.declared.State.{State}
 use Rattle.driver.proofs.Limits.{packet-limits}
 use Rattle.text.proofs.Digits.{decimal-length}
 use Rattle.lines.specs.Lines.{cellOf, lineOf, markLine, markLines, sectionLines, linesOf, jumpWord, repeatWord, cutWord, sectionWord, refusedWord, most}

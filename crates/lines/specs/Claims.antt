@@ -3,9 +3,9 @@ use mathlib.Core.List.{List}
 use Prim.Native.Nat.{ℕ, _≤_}
 use lib.ListN.{length}
 use Rattle.ground.specs.Outcome.{Determined}
-use Rattle.driver.specs.Packet.{pidOf, packetOf}
-use Rattle.driver.specs.declared.state.State.{State}
-use Rattle.driver.specs.declared.packet_call.Handling.{Handling}
+use Rattle.packet_call.specs.Packet.{pidOf, packetOf}
+use Rattle.state.specs.declared.State.{State}
+use Rattle.packet_call.specs.declared.Handling.{Handling}
 use Rattle.text.specs.Text.{Text}
 use Rattle.lines.specs.Lines.{linesOf, most}
 use Rattle.lines.specs.Promises.{WritesHeader, WritesLines}

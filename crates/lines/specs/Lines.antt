@@ -6,7 +6,7 @@ use lib.Dec.{ltb}
 use lib.ListN.{getD, drop}
 use Rattle.ground.specs.Answer.{Answer, refused, given}
 use Rattle.section.specs.Section.{sectionSize}
-use Rattle.driver.specs.Packet.{Said}
+use Rattle.packet_call.specs.Packet.{Said}
 use Rattle.text.specs.Text.{decimalOf}
 use Rattle.lines.specs.declared.Cell.{Cell}
 use Rattle.lines.specs.declared.Cell.the-variants.{Number, Dash}

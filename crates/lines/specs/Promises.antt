@@ -2,8 +2,8 @@
 use mathlib.Core.Path.{_≡_}
 use mathlib.Core.List.{List}
 use Prim.Native.Nat.{ℕ}
-use Rattle.driver.specs.Packet.{toldHandling, pidOf}
-use Rattle.driver.specs.declared.packet_call.Handling.{Handling}
+use Rattle.packet_call.specs.Packet.{toldHandling, pidOf}
+use Rattle.packet_call.specs.declared.Handling.{Handling}
 use Rattle.text.specs.Text.{Text, withBytes}
 use Rattle.lines.specs.Lines.{headerLine, linesOf}
 

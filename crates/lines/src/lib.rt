@@ -3,7 +3,7 @@ ghost use mathlib.Core.Path.{_≡_};
 ghost use mathlib.Core.List.{[], _∷_};
 ghost use lib.ListN.{getD, drop};
 ghost use Rattle.section.specs.Section.{sectionSize};
-ghost use Rattle.driver.specs.Packet.{toldReport, pidOf};
+ghost use Rattle.packet_call.specs.Packet.{toldReport, pidOf};
 ghost use Rattle.text.specs.Text.{upTo, withBytes};
 ghost use Rattle.lines.specs.Lines.{cellOf, lineOf, sectionWord, markLine, markLines, sectionLines};
 ghost use Rattle.lines.specs.Promises.{WritesHeader, WritesLines};

@@ -6,9 +6,9 @@ use Prim.Native.Nat.{ℕ}
 use native.Mathlib.Nat.{mod-eq-of-lt}
 use Rattle.ground.specs.Answer.{given}
 use Rattle.ground.proofs.Outcome.{determined, determined-told}
-use Rattle.driver.specs.State.{fresh}
-use Rattle.driver.specs.Sound.{sound}
-use Rattle.driver.specs.Open.{openOf}
+use Rattle.state.specs.State.{fresh}
+use Rattle.sound.specs.Sound.{sound}
+use Rattle.open_call.specs.Open.{openOf}
 use Rattle.pieces.specs.Claims.{Claims}
 use Rattle.pieces.specs.Piece.{AfterPiece, beginning, toldPiece, pieceOf}
 use Rattle.pieces.specs.declared.reads.Step.{Step}

@@ -6,8 +6,8 @@ use lib.ListN.{drop}
 use Rattle.ground.specs.House.{packetBytes}
 use Rattle.ground.specs.Answer.{given}
 use Rattle.ground.specs.Outcome.{Determined}
-use Rattle.driver.specs.State.{fresh}
-use Rattle.driver.specs.Open.{openOf}
+use Rattle.state.specs.State.{fresh}
+use Rattle.open_call.specs.Open.{openOf}
 use Rattle.pieces.specs.Input.{Work, nextIndex, afterCalls, printed, Between, afterRead, linesRead}
 use Rattle.pieces.specs.Piece.{pieceOf}
 use Rattle.pieces.specs.Promises.{Begins, ListsRead}

@@ -5,8 +5,8 @@ use Prim.Native.Nat.{ℕ, zero, suc, _+_, _*_, _/_, _%_, _^_}
 use lib.Dec.{ltb}
 use lib.ListN.{length, take, drop}
 use Rattle.ground.specs.House.{packetBytes}
-use Rattle.driver.specs.Packet.{pidOf, packetOf}
-use Rattle.driver.specs.declared.state.State.{State}
+use Rattle.packet_call.specs.Packet.{pidOf, packetOf}
+use Rattle.state.specs.declared.State.{State}
 use Rattle.lines.specs.Lines.{linesOf}
 
 -- what goes on from packet to packet: the driver's state, the next packet's index, the store and the output

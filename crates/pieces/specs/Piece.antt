@@ -7,8 +7,8 @@ use lib.Dec.{ltb}
 use lib.ListN.{length, take, drop}
 use Rattle.ground.specs.House.{packetBytes}
 use Rattle.ground.specs.Write.{put}
-use Rattle.driver.specs.State.{fresh}
-use Rattle.driver.specs.Open.{openOf}
+use Rattle.state.specs.State.{fresh}
+use Rattle.open_call.specs.Open.{openOf}
 use Rattle.text.specs.Text.{Text, upTo, withBytes}
 use Rattle.pieces.specs.Input.{Work, afterCall, nextLines, afterCalls, printed}
 use Rattle.pieces.specs.declared.packets.Progress.{Progress}

@@ -15,10 +15,10 @@ use Rattle.ground.specs.Walk.{keep}
 use Rattle.ground.proofs.Judged.{judge-seen}
 use Rattle.ground.proofs.Walk.{keep-append, keep-kept}
 use Rattle.gather.specs.Rule.{Packet}
-use Rattle.driver.specs.Open.{Place}
-use Rattle.driver.specs.Packet.{Said, unwanted, pidOf, packetFrom, report}
+use Rattle.open_call.specs.Open.{Place}
+use Rattle.packet_call.specs.Packet.{Said, unwanted, pidOf, packetFrom, report}
 use Rattle.runs.specs.Run.{Call, openCall, closeCall, packetCall, World, Event, openEvent, closeEvent, packetEvent, ours}
-use Rattle.runs.specs.History.{Opening, Accepted, opened, closed, packet, acceptedBy, numbersGiven, opens, closes, openingOf, isClosed, moreOpens, packets, since, upToClose, handed, completed}
+use Rattle.runs.specs.History.{OpenedFilter, AcceptedCall, opened, closed, packet, acceptedBy, numbersGiven, opens, closes, openingOf, isClosed, moreOpens, packets, since, upToClose, handed, completed}
 use Rattle.runs.specs.Answers.{lowestFree, openRows, isGiven, earlyRows, lateRows, outcomeAfter, placesAfter, written, packetAnswer, answerTo}
 use Rattle.runs.specs.Demand.{worldAfter, history, concerns, isOwn}
 use Rattle.runs.proofs.Ledger.{filterAt, IsOpen, Ledger, all-before, stood, busy, still-taken}
@@ -29,17 +29,17 @@ use Rattle.runs.proofs.Others.{thin, thin-opening, thin-packets, thin-s
 abbrev Owed : Type 0
 Owed = ℕ × List Packet
 
-abbrev owedOf : Opening → List Accepted → Owed
+abbrev owedOf : OpenedFilter → List AcceptedCall → Owed
 owedOf f h = (since f h, packets (f .pid) h)
 
-abbrev owed : Opening → List Accepted → Owed
+abbrev owed : OpenedFilter → List AcceptedCall → Owed
 owed f h = owedOf f (upToClose (f .number) h)
 
 -- whether it is closed, and what it is owed
 abbrev Status : Type 0
 Status = Bool × Owed
 
-abbrev status : Opening → List Accepted → Status
+abbrev status : OpenedFilter → List AcceptedCall → Status
 status f h = (isClosed (f .number) h, owed f h)
 
 -- one packet more, where it passes the tests that look at the call alone
@@ -47,22 +47,22 @@ abbrev offer : List ℕ → List ℕ → Owed → Owed
 offer p lent x = judge (λ n. x) (earlyRows p lent) (judge (λ n. x) (lateRows p) (suc (x .0), packetFrom p ∷ x .1))
 
 -- what a call makes of it
-abbrev goes : Opening → Call → Status → Status
+abbrev goes : OpenedFilter → Call → Status → Status
 goes f (openCall q) x = x
 goes f (closeCall number) x = (eqb number (f .number) || x .0, x .1)
 goes f (packetCall p lent) x = cond (eqb (pidOf p) (f .pid)) (x .0, cond (x .0) (x .1) (offer p lent (x .1))) x
 
-abbrev goesBy : Opening → List Call → Status → Status
+abbrev goesBy : OpenedFilter → List Call → Status → Status
 goesBy f [] x = x
 goesBy f (c ∷ cs) x = goes f c (goesBy f cs x)
 
 -- a call that is not its own makes nothing of it
-not-own : (f : Opening) (c : Call) (x : Status) → isOwn f c ≡ false → goes f c x ≡ x
+not-own : (f : OpenedFilter) (c : Call) (x : Status) → isOwn f c ≡ false → goes f c x ≡ x
 not-own f (openCall q) x e = refl
 not-own f (closeCall number) x e = rw e
 not-own f (packetCall p lent) x e = rw e
 
-own-alone : (f : Opening) (cs : List Call) (x : Status) → goesBy f (keep (isOwn f) cs) x ≡ goesBy f cs x
+own-alone : (f : OpenedFilter) (cs : List Call) (x : Status) → goesBy f (keep (isOwn f) cs) x ≡ goesBy f cs x
 own-alone f [] x = refl
 own-alone f (c ∷ cs) x = go (isOwn f c) refl (own-alone f cs x)
   where
@@ -81,7 +81,7 @@ judge-same (row ∷ rows) x y e = go (row .applies) (judge-same rows x y e)
     go false q = q
 
 -- a packet's answer, seen through a function
-packet-seen {ℓ} : {A : Type ℓ} (see : Event → A) (h : List Accepted) (p lent : List ℕ)
+packet-seen {ℓ} : {A : Type ℓ} (see : Event → A) (h : List AcceptedCall) (p lent : List ℕ)
     → see (packetAnswer h p lent)
     ≡ judge (λ n. see (packetEvent p lent (refused n) lent)) (earlyRows p lent)
     (cond (moreOpens (pidOf p) h)
@@ -105,7 +105,7 @@ packet-seen see h p lent =
     either false = refl
 
 -- where an accepted packet changes nothing of what is seen, no packet does
-packet-unseen {ℓ} : {A : Type ℓ} (see : List Accepted → A) (h : List Accepted) (p lent : List ℕ)
+packet-unseen {ℓ} : {A : Type ℓ} (see : List AcceptedCall → A) (h : List AcceptedCall) (p lent : List ℕ)
     → ((r : Said) (out : List ℕ) → see (packet p lent r out ∷ h) ≡ see h) → see (acceptedBy (packetAnswer h p lent) ++ h) ≡ see h
 packet-unseen see h p lent same =
     packet-seen (λ (e : Event). see (acceptedBy e ++ h)) h p lent
@@ -115,13 +115,13 @@ packet-unseen see h p lent same =
     go true e = e
     go false e = refl
 
-module _ (w : World) (h : List Accepted) (l : Ledger w h) (f : Opening) (came : openingOf (f .number) h ≡ there f) where
+module _ (w : World) (h : List AcceptedCall) (l : Ledger w h) (f : OpenedFilter) (came : openingOf (f .number) h ≡ there f) where
   -- its number is not given again
   not-next : numbersGiven h + 1 ≡ f .number → ⊥
   not-next e = let b = l .given (f .number) f came .1 in let n = l .numbers in omega arith
 
   -- a new filter
-  abbrev new : ℕ → Opening
+  abbrev new : ℕ → OpenedFilter
   new pid = record { number = numbersGiven h + 1; pid = pid; place = lowestFree h }
 
   -- ---- its open stays
@@ -246,17 +246,17 @@ module _ (w : World) (h : List Accepted) (l : Ledger w h) (f : Opening) (came : 
   step-status (packetCall p lent) = packet-status p lent
 
 -- ---- over a run
-own-concerns : (f : Opening) (c : Call) → isOwn f c ≡ true → concerns (f .pid) c ≡ true
+own-concerns : (f : OpenedFilter) (c : Call) → isOwn f c ≡ true → concerns (f .pid) c ≡ true
 own-concerns f (openCall q) e = refl
 own-concerns f (closeCall number) e = refl
 own-concerns f (packetCall p lent) e = e
 
-thin-owed : (f : Opening) (h : List Accepted) → owed f (thin (f .pid) h) ≡ owed f h
+thin-owed : (f : OpenedFilter) (h : List AcceptedCall) → owed f (thin (f .pid) h) ≡ owed f h
 thin-owed f h =
     ap (owedOf f) (thin-up (f .pid) (f .number) h)
     ∙ ap₂ (λ (m : ℕ) (ps : List Packet). (m, ps)) (thin-since f (upToClose (f .number) h)) (thin-packets (f .pid) (upToClose (f .number) h))
 
-module _ (store : List ℕ) (whole : length store ≡ 32768) (f : Opening) (before : List Call) (came : openingOf (f .number) (history ours store before) ≡ there f) where
+module _ (store : List ℕ) (whole : length store ≡ 32768) (f : OpenedFilter) (before : List Call) (came : openingOf (f .number) (history ours store before) ≡ there f) where
   pub run-opened : (later : List Call) → openingOf (f .number) (history ours store (later ++ before)) ≡ there f
   run-opened [] = came
   run-opened (c ∷ later) =

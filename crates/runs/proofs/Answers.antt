@@ -24,18 +24,18 @@ use Rattle.packet.specs.Packet.{packetRefusals}
 use Rattle.gather.specs.Rule.{Outcome, rule}
 use Rattle.gather.specs.Kind.{join}
 use Rattle.gather.specs.Memory.{stateOf}
-use Rattle.driver.specs.State.{isUsed, isOpen, isFree, standsOn, areaOf, placeOf, areaStart, freePlaceOf, freeFilter}
-use Rattle.driver.specs.Open.{AfterOpen, hasArea, areaFor, openRefusals, opened as openedState, openOf}
-use Rattle.driver.specs.Close as close
-use Rattle.driver.specs.Close.{closeOf}
-use Rattle.driver.specs.Packet.{AfterPacket, unwanted, asGiven, pidOf, packetFrom, placesOn, report, outcome, putBack, firstRefusals, lastRefusals, afterReading, afterTests, packetOf}
-use Rattle.driver.specs.declared.state.Area.{Area}
-use Rattle.driver.specs.declared.state.Filter.{Filter}
-use Rattle.driver.specs.declared.state.State.{State}
-use Rattle.driver.proofs.Clauses.{open-stands, used-inside}
-use Rattle.driver.proofs.Found.{has-pid, found-area, found-place}
+use Rattle.state.specs.State.{isUsed, isOpen, isFree, standsOn, areaOf, placeOf, areaStart, freePlaceOf, freeFilter, placesOn}
+use Rattle.open_call.specs.Open.{AfterOpen, hasArea, areaFor, openRefusals, opened as openedState, openOf}
+use Rattle.close_call.specs.Close as close
+use Rattle.close_call.specs.Close.{closeOf}
+use Rattle.packet_call.specs.Packet.{AfterPacket, unwanted, asGiven, pidOf, packetFrom, report, outcome, putBack, firstRefusals, lastRefusals, afterReading, afterTests, packetOf}
+use Rattle.state.specs.declared.Area.{Area}
+use Rattle.state.specs.declared.Filter.{Filter}
+use Rattle.state.specs.declared.State.{State}
+use Rattle.sound.proofs.Clauses.{open-stands, used-inside}
+use Rattle.state.proofs.Found.{has-pid, found-area, found-place}
 use Rattle.runs.specs.Run.{Call, openCall, closeCall, packetCall, World, Event, openEvent, closeEvent, packetEvent, event, ours}
-use Rattle.runs.specs.History.{Opening, Accepted, opened, closed, packet, numbersGiven, openingOf, isOn, isClosed, moreOpens, standing, areasTaken, packets, remembered}
+use Rattle.runs.specs.History.{OpenedFilter, AcceptedCall, opened, closed, packet, numbersGiven, openingOf, isOn, isClosed, moreOpens, standing, areasTaken, packets, remembered}
 use Rattle.runs.specs.Answers.{isAbsent, lowestFree, openAnswer, isGiven, closeAnswer, earlyRows, lateRows, outcomeAfter, placesAfter, written, packetAnswer, answerTo}
 use Rattle.runs.proofs.Ledger.{areaAt, filterAt, openingAt, seatAt, Ledger, stood, held-area, single, standing-long}
 use Rattle.runs.proofs.Steps.{fine, agrees}
@@ -49,17 +49,17 @@ above-next a n = go (decLe a n)
     go (no m) = le-ltb a (n + 1) (omega arith) ∙ sym (lt-leb a n (omega arith))
 
 -- the open that gave a number has it
-own-number : (n : ℕ) (h : List Accepted) (f : Opening) → openingOf n h ≡ there f → f .number ≡ n
+own-number : (n : ℕ) (h : List AcceptedCall) (f : OpenedFilter) → openingOf n h ≡ there f → f .number ≡ n
 own-number n [] f e = let z : _≡_ {A = ℕ} 0 1 = cc in absurd (omega arith)
 own-number n (opened g ∷ h) f e = go (eqb (g .number) n) refl e (own-number n h f)
   where
     go : (b : Bool) → eqb (g .number) n ≡ b → cond b (there g) (openingOf n h) ≡ there f → (openingOf n h ≡ there f → f .number ≡ n) → f .number ≡ n
-    go true q s rest = let same : g ≡ f = cc in ap (λ (x : Opening). x .number) (sym same) ∙ eqb-true (g .number) n q
+    go true q s rest = let same : g ≡ f = cc in ap (λ (x : OpenedFilter). x .number) (sym same) ∙ eqb-true (g .number) n q
     go false q s rest = rest s
 own-number n (closed m ∷ h) f e = own-number n h f e
 own-number n (packet p lent r out ∷ h) f e = own-number n h f e
 
-module _ (w : World) (h : List Accepted) (l : Ledger w h) where
+module _ (w : World) (h : List AcceptedCall) (l : Ledger w h) where
   abbrev s : State
   s = w .state
 
@@ -96,10 +96,10 @@ module _ (w : World) (h : List Accepted) (l : Ledger w h) where
   not-given : (number : ℕ) → leb (length (w .state .filters)) (placeOf number (w .state .filters)) ≡ not (isGiven h number)
   not-given number = go (decLt (placeOf number (s .filters)) (length (s .filters)))
     where
-      given-one : (f : Opening) → openingOf number h ≡ there f → isClosed number h ≡ false → isGiven h number ≡ true
+      given-one : (f : OpenedFilter) → openingOf number h ≡ there f → isClosed number h ≡ false → isGiven h number ≡ true
       given-one f e k = rw (e, k)
 
-      none-given : (placeOf number (s .filters) < length (s .filters) → ⊥) → (x : Perhaps Opening) → openingOf number h ≡ x → (b : Bool) → isClosed number h ≡ b → (not (isAbsent x) && not b) ≡ false
+      none-given : (placeOf number (s .filters) < length (s .filters) → ⊥) → (x : Perhaps OpenedFilter) → openingOf number h ≡ x → (b : Bool) → isClosed number h ≡ b → (not (isAbsent x) && not b) ≡ false
       none-given n absent e b k = refl
       none-given n (there f) e true k = refl
       none-given n (there f) e false k =

@@ -14,14 +14,14 @@ use Rattle.ground.proofs.Set.{in-set}
 use Rattle.ground.proofs.Test.{and-false}
 use Rattle.gather.specs.Rule.{Outcome}
 use Rattle.gather.specs.Kind.{join}
-use Rattle.driver.specs.State.{standsOn, areaOf, areaStart, freeFilter}
-use Rattle.driver.specs.Open.{Place, hasArea}
-use Rattle.driver.specs.Packet.{Said, unwanted, pidOf, placesOn, report, outcome}
-use Rattle.driver.specs.declared.state.State.{State}
-use Rattle.driver.proofs.Found.{found-area}
+use Rattle.state.specs.State.{standsOn, areaOf, areaStart, freeFilter, placesOn}
+use Rattle.open_call.specs.Open.{Place, hasArea}
+use Rattle.packet_call.specs.Packet.{Said, unwanted, pidOf, report, outcome}
+use Rattle.state.specs.declared.State.{State}
+use Rattle.state.proofs.Found.{found-area}
 use Rattle.driver.proofs.Cases.{Handles, open-ind, packet-ind}
 use Rattle.runs.specs.Run.{openCall, closeCall, packetCall, World, openEvent, closeEvent, packetEvent, after, event, start, ours}
-use Rattle.runs.specs.History.{Accepted, isAccepted, openingOf, isClosed}
+use Rattle.runs.specs.History.{AcceptedCall, isAccepted, openingOf, isClosed}
 use Rattle.runs.specs.Answers.{isAbsent, outcomeAfter, written}
 use Rattle.runs.specs.Demand.{worldAfter, history, isOpenOn, Statement}
 use Rattle.runs.proofs.Ledger.{areaAt, Ledger, held-area, single, users}
@@ -31,7 +31,7 @@ use Rattle.runs.proofs.Others.{others}
 use Rattle.runs.proofs.Alone.{alone}
 use Rattle.runs.proofs.Idle.{still, idle-world, idle-log}
 
-module _ (w : World) (h : List Accepted) (l : Ledger w h) where
+module _ (w : World) (h : List AcceptedCall) (l : Ledger w h) where
   abbrev s : State
   s = w .state
 

@@ -9,13 +9,13 @@ use Rattle.ground.specs.Answer.{refused, given}
 use Rattle.ground.specs.Write.{put}
 use Rattle.gather.specs.Rule.{rule, walk, add, started}
 use Rattle.gather.specs.Kind.{classify, kindOf}
-use Rattle.driver.specs.Open.{openOf}
-use Rattle.driver.specs.Close.{closeOf}
-use Rattle.driver.specs.Packet.{packetOf}
-use Rattle.driver.specs.Sound.{sound}
+use Rattle.open_call.specs.Open.{openOf}
+use Rattle.close_call.specs.Close.{closeOf}
+use Rattle.packet_call.specs.Packet.{packetOf}
+use Rattle.sound.specs.Sound.{sound}
 use Rattle.runs.specs.Run.{Call, openCall, closeCall, packetCall, openEvent, closeEvent, start, logFrom, ours}
 use Rattle.runs.specs.Answers.{placesAfter, openAnswer, closeAnswer}
-use Rattle.runs.specs.History.{Opening, Accepted, opened, closed, accepted, standing, areasTaken, upToClose, handed, packets, since, remembered, completed}
+use Rattle.runs.specs.History.{OpenedFilter, AcceptedCall, opened, closed, accepted, standing, areasTaken, upToClose, handed, packets, since, remembered, completed}
 
 -- a number is given, closed, refused 16 and never given again
 pub closed-for-good :
@@ -29,11 +29,11 @@ unfolding openOf closeOf sound
 closed-for-good = refl
 
 -- ---- what is handed
-abbrev after : List Call → List Accepted
+abbrev after : List Call → List AcceptedCall
 after calls = accepted (logFrom ours (start (replicate 32768 0)) calls)
 
 -- after the calls a filter was handed these sections, and these are what the rule completes
-abbrev Handed : Opening → List Call → List (List ℕ) → Type 0
+abbrev Handed : OpenedFilter → List Call → List (List ℕ) → Type 0
 Handed f calls sections = (handed f (after calls) ≡ sections) × (completed (since f (after calls)) (packets (f .pid) (after calls)) ≡ sections)
 
 abbrev lend : List ℕ → Call
@@ -73,10 +73,10 @@ forgotten-section = (refl, refl)
 
 -- ---- what a history says
 -- two filters on PID 0; the second is closed, and a filter on PID 5 comes to its place
-abbrev earlier : List Accepted
+abbrev earlier : List AcceptedCall
 earlier = opened (record { number = 2; pid = 0; place = 1 }) ∷ opened (record { number = 1; pid = 0; place = 0 }) ∷ []
 
-abbrev reused : List Accepted
+abbrev reused : List AcceptedCall
 reused = opened (record { number = 3; pid = 5; place = 1 }) ∷ closed 2 ∷ earlier
 
 pub who-stands : take 3 (standing reused) ≡ there (record { number = 1; pid = 0; place = 0 }) ∷ there (record { number = 3; pid = 5; place = 1 }) ∷ absent ∷ []
@@ -100,7 +100,7 @@ pub areas-counted : (areasTaken earlier ≡ 1) × (areasTaken reused ≡ 2) × (
 areas-counted = (refl, refl, refl, refl)
 
 -- eight PIDs, each with a filter
-abbrev eight : List Accepted
+abbrev eight : List AcceptedCall
 eight =
     opened (record { number = 8; pid = 7; place = 7 })
     ∷ opened (record { number = 7; pid = 6; place = 6 })

@@ -18,17 +18,17 @@ use Rattle.gather.specs.Rule.{Packet}
 use Rattle.gather.specs.Kind.{contradicting}
 use Rattle.gather.specs.Memory.{stateOf}
 use Rattle.gather.proofs.RuleKeeps.{rule-keeps}
-use Rattle.driver.specs.State.{isUsed, isOpen, hasPid, areaOf, areaStart, freeArea, freeFilter}
-use Rattle.driver.specs.Open.{hasArea}
-use Rattle.driver.specs.Packet.{Said}
-use Rattle.driver.specs.declared.state.Area.{Area}
-use Rattle.driver.specs.declared.state.Filter.{Filter}
-use Rattle.driver.specs.declared.state.State.{State}
-use Rattle.driver.proofs.Clauses.{Clauses, open-stands, used-inside, used-some}
-use Rattle.driver.proofs.OpenStaysSound.{only-one}
-use Rattle.driver.proofs.Found.{has-pid, found-area}
+use Rattle.state.specs.State.{isUsed, isOpen, hasPid, areaOf, areaStart, freeArea, freeFilter}
+use Rattle.open_call.specs.Open.{hasArea}
+use Rattle.packet_call.specs.Packet.{Said}
+use Rattle.state.specs.declared.Area.{Area}
+use Rattle.state.specs.declared.Filter.{Filter}
+use Rattle.state.specs.declared.State.{State}
+use Rattle.sound.proofs.Clauses.{Clauses, open-stands, used-inside, used-some}
+use Rattle.sound.proofs.Pids.{only-one}
+use Rattle.state.proofs.Found.{has-pid, found-area}
 use Rattle.runs.specs.Run.{World}
-use Rattle.runs.specs.History.{Opening, Accepted, opened, closed, packet, numbersGiven, opens, closes, openingOf, isClosed, moreOpens, standing, areasTaken, packets, since, upToClose, handed, remembered, completed}
+use Rattle.runs.specs.History.{OpenedFilter, AcceptedCall, opened, closed, packet, numbersGiven, opens, closes, openingOf, isClosed, moreOpens, standing, areasTaken, packets, since, upToClose, handed, remembered, completed}
 use Rattle.runs.specs.Demand.{IsCounted}
 use Rattle.runs.proofs.AsRun.{remembered-none, remembered-one}
 
@@ -43,23 +43,23 @@ abbrev pub filterAt : State → ℕ → Filter
 filterAt s j = getD (s .filters) j freeFilter
 
 -- a filter is open: an accepted open gave its number, and no close of it was accepted
-pub record IsOpen (f : Opening) (h : List Accepted) : Type 0 where
+pub record IsOpen (f : OpenedFilter) (h : List AcceptedCall) : Type 0 where
   pub opened : openingOf (f .number) h ≡ there f
   pub kept : isClosed (f .number) h ≡ false
 
 -- what a filter was handed is what the rule completes up to its close
-abbrev pub Handed : Opening → List Accepted → Type 0
+abbrev pub Handed : OpenedFilter → List AcceptedCall → Type 0
 Handed f h = handed f h ≡ completed (since f (upToClose (f .number) h)) (packets (f .pid) (upToClose (f .number) h))
 
 -- the open that the filter at a place came of
-abbrev pub openingAt : State → ℕ → Opening
+abbrev pub openingAt : State → ℕ → OpenedFilter
 openingAt s j = record { number = filterAt s j .number; pid = areaAt s (filterAt s j .area) .pid .0; place = j }
 
 -- who stands at a place, by the state
-abbrev pub seatAt : State → ℕ → Perhaps Opening
+abbrev pub seatAt : State → ℕ → Perhaps OpenedFilter
 seatAt s j = cond (isOpen (filterAt s j)) (there (openingAt s j)) absent
 
-pub record Ledger (w : World) (h : List Accepted) : Type 0 where
+pub record Ledger (w : World) (h : List AcceptedCall) : Type 0 where
   pub whole : length (w .store) ≡ 32768
   pub eight : length (w .state .areas) ≡ 8
   pub places : length (w .state .filters) ≡ 32
@@ -68,10 +68,10 @@ pub record Ledger (w : World) (h : List Accepted) : Type 0 where
   pub balance : (pid : ℕ) → total (usersOf pid) (w .state .areas) + closes pid h ≡ opens pid h
   -- the next number is one above all that were given, and numbers given and closed are below it
   pub numbers : w .state .next ≡ numbersGiven h + 1
-  pub given : (number : ℕ) (f : Opening) → openingOf number h ≡ there f → (1 ≤ number) × (number < w .state .next)
+  pub given : (number : ℕ) (f : OpenedFilter) → openingOf number h ≡ there f → (1 ≤ number) × (number < w .state .next)
   pub ended : (number : ℕ) → isClosed number h ≡ true → number < w .state .next
   -- an open filter stands at its place, and who stands at a place is open
-  pub stands : (f : Opening) → IsOpen f h → (f .place < length (w .state .filters)) × (filterAt (w .state) (f .place) .number ≡ f .number)
+  pub stands : (f : OpenedFilter) → IsOpen f h → (f .place < length (w .state .filters)) × (filterAt (w .state) (f .place) .number ≡ f .number)
   pub known : (j : ℕ) → j < length (w .state .filters) → isOpen (filterAt (w .state) j) ≡ true → IsOpen (openingAt (w .state) j) h
   pub seats : (j : ℕ) → getD (standing h) j absent ≡ seatAt (w .state) j
   -- as many areas are used as were taken
@@ -82,26 +82,26 @@ pub record Ledger (w : World) (h : List Accepted) : Type 0 where
   -- every answer counts the sections in the output
   pub counts : Every IsCounted h
   -- a filter was handed what the rule completes
-  pub hands : (f : Opening) → openingOf (f .number) h ≡ there f → Handed f h
+  pub hands : (f : OpenedFilter) → openingOf (f .number) h ≡ there f → Handed f h
 
 -- ---- up to a close
 -- before its close a number's history is the whole
-pub all-before : (n : ℕ) (h : List Accepted) → isClosed n h ≡ false → upToClose n h ≡ h
+pub all-before : (n : ℕ) (h : List AcceptedCall) → isClosed n h ≡ false → upToClose n h ≡ h
 all-before n [] e = refl
 all-before n (opened f ∷ h) e = rw e
 all-before n (closed m ∷ h) e = let k = neither (eqb m n) (isClosed n h) e in rw (k .1, k .0)
 all-before n (packet p lent r out ∷ h) e = rw e
 
 -- what is handed to an open filter
-pub open-handed : (f : Opening) (h : List Accepted) → isClosed (f .number) h ≡ false → handed f h ≡ completed (since f h) (packets (f .pid) h) → Handed f h
+pub open-handed : (f : OpenedFilter) (h : List AcceptedCall) → isClosed (f .number) h ≡ false → handed f h ≡ completed (since f h) (packets (f .pid) h) → Handed f h
 open-handed f h e q = rw (all-before (f .number) h e) q
 
-pub handed-open : (f : Opening) (h : List Accepted) → isClosed (f .number) h ≡ false → Handed f h → handed f h ≡ completed (since f h) (packets (f .pid) h)
+pub handed-open : (f : OpenedFilter) (h : List AcceptedCall) → isClosed (f .number) h ≡ false → Handed f h → handed f h ≡ completed (since f h) (packets (f .pid) h)
 handed-open f h e q = rw (all-before (f .number) h e) at q
 
 -- after its close nothing more is handed to a filter
-module _ (f : Opening) (h : List Accepted) (e : isClosed (f .number) h ≡ true) (q : Handed f h) where
-  pub after-open : (g : Opening) → (g .number ≡ f .number → ⊥) → Handed f (opened g ∷ h)
+module _ (f : OpenedFilter) (h : List AcceptedCall) (e : isClosed (f .number) h ≡ true) (q : Handed f h) where
+  pub after-open : (g : OpenedFilter) → (g .number ≡ f .number → ⊥) → Handed f (opened g ∷ h)
   after-open g n = rw (e, ne-eqb (g .number) (f .number) n) q
 
   pub after-close : (number : ℕ) → Handed f (closed number ∷ h)
@@ -116,7 +116,7 @@ remembered-fine [] = ap (λ (s : Rule.State). contradicting (s .held)) remembere
 remembered-fine (p ∷ ps) = ap (λ (s : Rule.State). contradicting (s .held)) (remembered-one p ps) ∙ rule-keeps (remembered ps) p (remembered-fine ps) .part
 
 -- an open filter stands on a used area that has its PID
-pub record Stands (s : State) (f : Opening) : Type 0 where
+pub record Stands (s : State) (f : OpenedFilter) : Type 0 where
   pub inside : f .place < length (s .filters)
   pub number : filterAt s (f .place) .number ≡ f .number
   pub isopen : isOpen (filterAt s (f .place)) ≡ true
@@ -124,14 +124,14 @@ pub record Stands (s : State) (f : Opening) : Type 0 where
   pub area : filterAt s (f .place) .area < length (s .areas)
   pub pid : areaAt s (filterAt s (f .place) .area) .pid .0 ≡ f .pid
 
-pub same-there : {x y : Opening} → there x ≡ there y → x ≡ y
+pub same-there : {x y : OpenedFilter} → there x ≡ there y → x ≡ y
 same-there e = cc
 
-module _ (w : World) (h : List Accepted) (l : Ledger w h) where
+module _ (w : World) (h : List AcceptedCall) (l : Ledger w h) where
   abbrev s : State
   s = w .state
 
-  pub stood : (f : Opening) → IsOpen f h → Stands (w .state) f
+  pub stood : (f : OpenedFilter) → IsOpen f h → Stands (w .state) f
   stood f o =
       let at = l .stands f o in
       let range = l .given (f .number) f (o .opened) in
@@ -144,7 +144,7 @@ module _ (w : World) (h : List Accepted) (l : Ledger w h) where
         isopen = open-there;
         used = used;
         area = used-inside (s .areas) (filterAt s (f .place) .area) used;
-        pid = ap (λ (g : Opening). g .pid) is;
+        pid = ap (λ (g : OpenedFilter). g .pid) is;
       }
     where
       nonzero : {n m : ℕ} → n ≡ m → 1 ≤ m → n ≡ 0 → ⊥
@@ -160,13 +160,13 @@ module _ (w : World) (h : List Accepted) (l : Ledger w h) where
       omega arith
 
   -- an open of a PID that has users does not take its area anew
-  pub not-taken : (pid : ℕ) (f : Opening) → 0 < total (usersOf pid) (w .state .areas) → packets pid (opened f ∷ h) ≡ packets pid h
+  pub not-taken : (pid : ℕ) (f : OpenedFilter) → 0 < total (usersOf pid) (w .state .areas) → packets pid (opened f ∷ h) ≡ packets pid h
   not-taken pid f some =
       let even = l .balance pid in
       rw (ne-eqb (opens pid h) (closes pid h) (λ e. omega arith), and-false (eqb (f .pid) pid))
 
   -- nor where a filter of the PID is open
-  pub still-taken : (f g : Opening) → IsOpen f h → packets (f .pid) (opened g ∷ h) ≡ packets (f .pid) h
+  pub still-taken : (f g : OpenedFilter) → IsOpen f h → packets (f .pid) (opened g ∷ h) ≡ packets (f .pid) h
   still-taken f g i =
       let st = stood f i in
       not-taken (f .pid) g (busy (filterAt s (f .place) .area) (f .pid) (st .area) (st .used) (st .pid))
@@ -206,8 +206,8 @@ module _ (w : World) (h : List Accepted) (l : Ledger w h) where
       other j c n false q = refl
 
 -- there are 32 places
-pub standing-long : (h : List Accepted) → length (standing h) ≡ 32
-standing-long [] = length-replicate {A = Perhaps Opening} 32 absent
+pub standing-long : (h : List AcceptedCall) → length (standing h) ≡ 32
+standing-long [] = length-replicate {A = Perhaps OpenedFilter} 32 absent
 standing-long (opened f ∷ h) = length-set (standing h) (f .place) (there f) ∙ standing-long h
 standing-long (closed n ∷ h) = length-map (standing h) _ ∙ standing-long h
 standing-long (packet p lent r out ∷ h) = standing-long h

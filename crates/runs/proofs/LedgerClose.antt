@@ -14,18 +14,18 @@ use Rattle.ground.specs.Walk.{total, count}
 use Rattle.ground.proofs.Walk.{total-set, passes-inside}
 use Rattle.ground.specs.Perhaps.{Perhaps, there, absent}
 use Rattle.gather.specs.Memory.{stateOf}
-use Rattle.driver.specs.State.{isUsed, isOpen, areaStart, placeOf, freeArea, freeFilter}
-use Rattle.driver.specs.Close.{withoutUser, withoutFilter}
-use Rattle.driver.specs.declared.state.Area.{Area}
-use Rattle.driver.specs.declared.state.Filter.{Filter}
-use Rattle.driver.specs.declared.state.State.{State}
-use Rattle.driver.proofs.Clauses.{open-stands, used-inside, used-some}
-use Rattle.driver.proofs.Found.{found-place}
+use Rattle.state.specs.State.{isUsed, isOpen, areaStart, placeOf, freeArea, freeFilter}
+use Rattle.close_call.specs.Close.{withoutUser, withoutFilter}
+use Rattle.state.specs.declared.Area.{Area}
+use Rattle.state.specs.declared.Filter.{Filter}
+use Rattle.state.specs.declared.State.{State}
+use Rattle.sound.proofs.Clauses.{open-stands, used-inside, used-some}
+use Rattle.state.proofs.Found.{found-place}
 use Rattle.driver.proofs.Cases.{Closes}
 use Rattle.ground.proofs.Test.{neither}
 use Rattle.driver.proofs.StaysSound.{closes-clauses}
 use Rattle.runs.specs.Run.{World}
-use Rattle.runs.specs.History.{Opening, Accepted, closed, opens, closes, isOn, isLast, openingOf, isClosed, moreOpens, unless, standing, areasTaken, packets, remembered}
+use Rattle.runs.specs.History.{OpenedFilter, AcceptedCall, closed, opens, closes, isOn, isLast, openingOf, isClosed, moreOpens, unless, standing, areasTaken, packets, remembered}
 use Rattle.runs.proofs.Ledger.{usersOf, areaAt, filterAt, openingAt, seatAt, same-there, IsOpen, Handed, Ledger, open-handed, handed-open, after-close, stood, users}
 
 -- the area has one user less
@@ -52,7 +52,7 @@ without-user-keeps a u = go (ℕ-discrete (a .users) 1)
     go (yes e) = absurd (false≢true (rw (eq-eqb (a .users) 1 e) at u))
     go (no n) = rw (ne-eqb (a .users) 1 n)
 
-module _ (w : World) (h : List Accepted) (l : Ledger w h) (number : ℕ) (c : Closes (w .state) number) where
+module _ (w : World) (h : List AcceptedCall) (l : Ledger w h) (number : ℕ) (c : Closes (w .state) number) where
   abbrev s : State
   s = w .state
 
@@ -97,12 +97,12 @@ module _ (w : World) (h : List Accepted) (l : Ledger w h) (number : ℕ) (c : Cl
       go (no m) = l .ended n (rw (ne-eqb number n m) at e)
 
   -- who is open still was open before and is another
-  before : (f : Opening) → IsOpen f (closed number ∷ h) → IsOpen f h × (number ≡ f .number → ⊥)
+  before : (f : OpenedFilter) → IsOpen f (closed number ∷ h) → IsOpen f h × (number ≡ f .number → ⊥)
   before f i =
       let parts = neither (eqb number (f .number)) (isClosed (f .number) h) (i .kept) in
       (record { opened = i .opened; kept = parts .1 }, eqb-false number (f .number) (parts .0))
 
-  stands : (f : Opening) → IsOpen f (closed number ∷ h) → (f .place < length (set (s .filters) p freeFilter)) × (getD (set (s .filters) p freeFilter) (f .place) freeFilter .number ≡ f .number)
+  stands : (f : OpenedFilter) → IsOpen f (closed number ∷ h) → (f .place < length (set (s .filters) p freeFilter)) × (getD (set (s .filters) p freeFilter) (f .place) freeFilter .number ≡ f .number)
   stands f i =
       let b = before f i in
       let st = stood w h l f (b .0) in
@@ -143,7 +143,7 @@ module _ (w : World) (h : List Accepted) (l : Ledger w h) (number : ℕ) (c : Cl
   other-number j n b i e = n (same-place (sym (l .known j b i .opened) ∙ ap (λ (k : ℕ). openingOf k h) (sym e) ∙ came))
     where
       same-place : there (openingAt s j) ≡ there (openingAt s p) → j ≡ p
-      same-place q = ap (λ (f : Opening). f .place) (same-there q)
+      same-place q = ap (λ (f : OpenedFilter). f .place) (same-there q)
 
   freed : getD (set (s .filters) p freeFilter) p freeFilter ≡ freeFilter
   freed = getD-set-same (s .filters) p freeFilter freeFilter (c .place)
@@ -167,7 +167,7 @@ module _ (w : World) (h : List Accepted) (l : Ledger w h) (number : ℕ) (c : Cl
           → unless number (cond b (there (openingAt s j)) absent) ≡ cond b (there (openingAt (withoutFilter s p) j)) absent
       elsewhere n true i =
           let within = passes-inside isOpen (s .filters) j freeFilter refl i in
-          rw (ne-eqb (filterAt s j .number) number (λ e. other-number j n within i (sym e))) (ap (λ (f : Opening). there f) (sym (old-opening j n within i)))
+          rw (ne-eqb (filterAt s j .number) number (λ e. other-number j n within i (sym e))) (ap (λ (f : OpenedFilter). there f) (sym (old-opening j n within i)))
       elsewhere n false i = refl
 
       go : Dec (j ≡ p) → unless number (seatAt s j) ≡ seatAt (withoutFilter s p) j
@@ -189,7 +189,7 @@ module _ (w : World) (h : List Accepted) (l : Ledger w h) (number : ℕ) (c : Cl
       -- one more close of its PID
       left-over : moreOpens (areaAt s a .pid .0) (closed number ∷ h) ≡ ltb (1 + closes (areaAt s a .pid .0) h) (opens (areaAt s a .pid .0) h)
       left-over =
-          ap (λ (x : Perhaps Opening). ltb (cond (isOn (areaAt s a .pid .0) x) 1 0 + closes (areaAt s a .pid .0) h) (opens (areaAt s a .pid .0) h)) came
+          ap (λ (x : Perhaps OpenedFilter). ltb (cond (isOn (areaAt s a .pid .0) x) 1 0 + closes (areaAt s a .pid .0) h) (opens (areaAt s a .pid .0) h)) came
           ∙ ap (λ (b : Bool). ltb (cond b 1 0 + closes (areaAt s a .pid .0) h) (opens (areaAt s a .pid .0) h)) (eq-eqb (areaAt s a .pid .0) (areaAt s a .pid .0) refl)
 
       go : Dec (areaAt s a .users ≡ 1) → count isUsed (set (s .areas) a area) ≡ areasTaken h - cond (isLast (there (openingAt s p)) (closed number ∷ h)) 1 0
@@ -214,7 +214,7 @@ module _ (w : World) (h : List Accepted) (l : Ledger w h) (number : ℕ) (c : Cl
       rw (same .0, same .1) (l .remembers i (rw length-set at b) (same .2))
 
   -- what a filter is handed ends with its close
-  hands : (f : Opening) → openingOf (f .number) h ≡ there f → Handed f (closed number ∷ h)
+  hands : (f : OpenedFilter) → openingOf (f .number) h ≡ there f → Handed f (closed number ∷ h)
   hands f i = go (isClosed (f .number) h) refl (ℕ-discrete number (f .number))
     where
       go : (b : Bool) → isClosed (f .number) h ≡ b → Dec (number ≡ f .number) → Handed f (closed number ∷ h)

@@ -16,19 +16,19 @@ use Rattle.ground.proofs.Walk.{total-set, total-none, find-passes, passes-insid
 use Rattle.ground.specs.Perhaps.{there, absent}
 use Rattle.gather.specs.Rule.{blank}
 use Rattle.gather.specs.Memory.{stateOf}
-use Rattle.driver.specs.State.{isUsed, isOpen, isFree, areaStart, freePlaceOf, freeArea, freeFilter}
-use Rattle.driver.specs.Sound.{soundArea, isZeroArea}
-use Rattle.driver.specs.Open.{areaFor, withUser, opened as openedState}
-use Rattle.driver.specs.declared.state.Area.{Area}
-use Rattle.driver.specs.declared.state.Filter.{Filter}
-use Rattle.driver.specs.declared.state.State.{State}
-use Rattle.driver.proofs.Clauses.{open-stands}
-use Rattle.driver.proofs.OpenStaysSound.{ForPid, own, new, for-pid, others}
-use Rattle.driver.proofs.Found.{found-area}
+use Rattle.state.specs.State.{isUsed, isOpen, isFree, areaStart, freePlaceOf, freeArea, freeFilter}
+use Rattle.sound.specs.Sound.{soundArea, isZeroArea}
+use Rattle.open_call.specs.Open.{areaFor, withUser, opened as openedState}
+use Rattle.state.specs.declared.Area.{Area}
+use Rattle.state.specs.declared.Filter.{Filter}
+use Rattle.state.specs.declared.State.{State}
+use Rattle.sound.proofs.Clauses.{open-stands}
+use Rattle.open_call.proofs.OpenStaysSound.{ForPid, own, new, for-pid, others}
+use Rattle.state.proofs.Found.{found-area}
 use Rattle.driver.proofs.Cases.{Opens}
 use Rattle.driver.proofs.StaysSound.{opens-clauses}
 use Rattle.runs.specs.Run.{World}
-use Rattle.runs.specs.History.{Opening, Accepted, opened, opens, closes, openingOf, isClosed, moreOpens, standing, areasTaken, packets, since, remembered, completed}
+use Rattle.runs.specs.History.{OpenedFilter, AcceptedCall, opened, opens, closes, openingOf, isClosed, moreOpens, standing, areasTaken, packets, since, remembered, completed}
 use Rattle.runs.proofs.AsRun.{remembered-none, completed-none}
 use Rattle.runs.proofs.Ledger.{usersOf, areaAt, filterAt, openingAt, seatAt, IsOpen, Handed, Ledger, open-handed, handed-open, after-open, stood, busy, not-taken, still-taken, standing-long}
 
@@ -68,7 +68,7 @@ free-blank a store base e u =
     rw (eqb-true (a .marks .held) 0 (p0 .1), not-true (a .marks .seen) (p1 .1))
 
 -- ---- the ledger
-module _ (w : World) (h : List Accepted) (l : Ledger w h) (pid : ℕ) (o : Opens (w .state) pid) where
+module _ (w : World) (h : List AcceptedCall) (l : Ledger w h) (pid : ℕ) (o : Opens (w .state) pid) where
   abbrev s : State
   s = w .state
 
@@ -78,7 +78,7 @@ module _ (w : World) (h : List Accepted) (l : Ledger w h) (pid : ℕ) (o : Opens
   abbrev p : ℕ
   p = freePlaceOf (s .filters)
 
-  abbrev fresh : Opening
+  abbrev fresh : OpenedFilter
   fresh = record { number = s .next; pid = pid; place = p }
 
   abbrev area : Area
@@ -103,7 +103,7 @@ module _ (w : World) (h : List Accepted) (l : Ledger w h) (pid : ℕ) (o : Opens
       let b = l .balance q in
       omega arith
 
-  given : (number : ℕ) (f : Opening) → openingOf number (opened fresh ∷ h) ≡ there f → (1 ≤ number) × (number < s .next + 1)
+  given : (number : ℕ) (f : OpenedFilter) → openingOf number (opened fresh ∷ h) ≡ there f → (1 ≤ number) × (number < s .next + 1)
   given number f e = go (ℕ-discrete (s .next) number)
     where
       go : Dec (s .next ≡ number) → (1 ≤ number) × (number < s .next + 1)
@@ -111,10 +111,10 @@ module _ (w : World) (h : List Accepted) (l : Ledger w h) (pid : ℕ) (o : Opens
       go (no n) = let b = l .given number f (rw (ne-eqb (s .next) number n) at e) in (b .0, let c = b .1 in omega arith)
 
   -- who was open before
-  before : (f : Opening) → IsOpen f (opened fresh ∷ h) → (s .next ≡ f .number → ⊥) → IsOpen f h
+  before : (f : OpenedFilter) → IsOpen f (opened fresh ∷ h) → (s .next ≡ f .number → ⊥) → IsOpen f h
   before f i n = record { opened = rw (ne-eqb (s .next) (f .number) n) at (i .opened); kept = i .kept }
 
-  stands : (f : Opening) → IsOpen f (opened fresh ∷ h) → (f .place < length (set (s .filters) p filter)) × (getD (set (s .filters) p filter) (f .place) freeFilter .number ≡ f .number)
+  stands : (f : OpenedFilter) → IsOpen f (opened fresh ∷ h) → (f .place < length (set (s .filters) p filter)) × (getD (set (s .filters) p filter) (f .place) freeFilter .number ≡ f .number)
   stands f i = go (ℕ-discrete (s .next) (f .number))
     where
       go : Dec (s .next ≡ f .number) → (f .place < length (set (s .filters) p filter)) × (getD (set (s .filters) p filter) (f .place) freeFilter .number ≡ f .number)
@@ -207,7 +207,7 @@ module _ (w : World) (h : List Accepted) (l : Ledger w h) (pid : ℕ) (o : Opens
       open-now = let one = l .clauses .from in ap not (ne-eqb (s .next) 0 (λ e. omega arith))
 
       elsewhere : (j ≡ p → ⊥) → (b : Bool) → isOpen (filterAt s j) ≡ b → cond b (there (openingAt s j)) absent ≡ cond b (there (openingAt (openedState s pid) j)) absent
-      elsewhere n true i = ap (λ (f : Opening). there f) (sym (old-opening j n (passes-inside isOpen (s .filters) j freeFilter refl i) i))
+      elsewhere n true i = ap (λ (f : OpenedFilter). there f) (sym (old-opening j n (passes-inside isOpen (s .filters) j freeFilter refl i) i))
       elsewhere n false i = refl
 
       go : Dec (j ≡ p) → getD (set (standing h) p (there fresh)) j absent ≡ seatAt (openedState s pid) j
@@ -217,7 +217,7 @@ module _ (w : World) (h : List Accepted) (l : Ledger w h) (pid : ℕ) (o : Opens
           let low = o .place in
           ap (λ (k : ℕ). getD (set (standing h) p (there fresh)) k absent) e
           ∙ getD-set-same (standing h) p (there fresh) absent (omega arith)
-          ∙ ap (λ (f : Opening). there f) (sym new-opening)
+          ∙ ap (λ (f : OpenedFilter). there f) (sym new-opening)
           ∙ ap (λ (b : Bool). cond b (there (openingAt (openedState s pid) p)) absent) (sym (ap isOpen new-filter ∙ open-now))
           ∙ ap (seatAt (openedState s pid)) (sym e)
       go (no n) =
@@ -272,7 +272,7 @@ module _ (w : World) (h : List Accepted) (l : Ledger w h) (pid : ℕ) (o : Opens
           let inside : i < length (s .areas) = rw length-set at b in
           rw same (l .remembers i inside was ∙ ap remembered (sym (not-taken w h l (areaAt s i .pid .0) fresh (busy w h l i (areaAt s i .pid .0) inside was refl))))
 
-  hands : (f : Opening) → openingOf (f .number) (opened fresh ∷ h) ≡ there f → Handed f (opened fresh ∷ h)
+  hands : (f : OpenedFilter) → openingOf (f .number) (opened fresh ∷ h) ≡ there f → Handed f (opened fresh ∷ h)
   hands f i = go (ℕ-discrete (s .next) (f .number))
     where
       -- a filter that was there before

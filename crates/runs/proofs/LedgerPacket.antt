@@ -24,23 +24,23 @@ use Rattle.gather.specs.Memory.{stateOf, stretch, lastOf}
 use Rattle.gather.proofs.RuleKeeps.{rule-keeps}
 use Rattle.gather.proofs.RuleOnMemory.{sound-says}
 use Rattle.gather.proofs.Stored.{state-again, output-cut}
-use Rattle.driver.specs.State.{isUsed, isOpen, standsOn, areaOf, areaStart, freeArea, freeFilter}
-use Rattle.driver.specs.Sound.{soundArea}
-use Rattle.driver.specs.Packet.{Said, pidOf, packetFrom, placesOn, outcome, withMarks, report, putBack}
-use Rattle.driver.specs.declared.state.Area.{Area}
-use Rattle.driver.specs.declared.state.State.{State}
-use Rattle.driver.proofs.OpenStaysSound.{only-one}
-use Rattle.driver.proofs.Clauses.{marks-sound}
+use Rattle.state.specs.State.{isUsed, isOpen, standsOn, areaOf, areaStart, freeArea, freeFilter, placesOn}
+use Rattle.sound.specs.Sound.{soundArea}
+use Rattle.packet_call.specs.Packet.{Said, pidOf, packetFrom, outcome, withMarks, report, putBack}
+use Rattle.state.specs.declared.Area.{Area}
+use Rattle.state.specs.declared.State.{State}
+use Rattle.sound.proofs.Pids.{only-one}
+use Rattle.sound.proofs.Clauses.{marks-sound}
 use Rattle.ground.proofs.Frame.{unseen, part-apart}
 use Rattle.driver.proofs.Cases.{Handles}
-use Rattle.driver.proofs.Found.{has-pid, found-area}
+use Rattle.state.proofs.Found.{has-pid, found-area}
 use Rattle.driver.proofs.StaysSound.{held-fits, held-inside, handles-clauses}
 use Rattle.runs.specs.Run.{World}
-use Rattle.runs.specs.History.{Opening, Accepted, packet, opens, closes, openingOf, isClosed, standing, areasTaken, packets, since, sectionsOf, handed, remembered, completed}
+use Rattle.runs.specs.History.{OpenedFilter, AcceptedCall, packet, opens, closes, openingOf, isClosed, standing, areasTaken, packets, since, sectionsOf, handed, remembered, completed}
 use Rattle.runs.proofs.AsRun.{remembered-one, completed-one}
 use Rattle.runs.proofs.Ledger.{usersOf, areaAt, filterAt, openingAt, seatAt, IsOpen, Handed, Ledger, Stands, open-handed, handed-open, after-packet, stood}
 
-module _ (w : World) (h : List Accepted) (l : Ledger w h) (p out : List ℕ) (k : Handles (w .state) p (w .store) out) where
+module _ (w : World) (h : List AcceptedCall) (l : Ledger w h) (p out : List ℕ) (k : Handles (w .state) p (w .store) out) where
   abbrev s : State
   s = w .state
 
@@ -93,7 +93,7 @@ module _ (w : World) (h : List Accepted) (l : Ledger w h) (p out : List ℕ) (k 
   known j b i = let was = l .known j b i in rw (same-opening j) (record { opened = was .opened; kept = was .kept })
 
   seats : (j : ℕ) → getD (standing h) j absent ≡ seatAt (after .state) j
-  seats j = l .seats j ∙ ap (λ (f : Opening). cond (isOpen (filterAt s j)) (there f) absent) (sym (same-opening j))
+  seats j = l .seats j ∙ ap (λ (f : OpenedFilter). cond (isOpen (filterAt s j)) (there f) absent) (sym (same-opening j))
 
   busy-areas : count isUsed (set (s .areas) own area) ≡ areasTaken h
   busy-areas =
@@ -140,7 +140,7 @@ module _ (w : World) (h : List Accepted) (l : Ledger w h) (p out : List ℕ) (k 
       let most = keeps .bytes (k .short) in
       output-cut (result .sections) out (keeps .whole) (omega arith)
 
-  handed-more : (f : Opening) → IsOpen f h → handed f (packet p out said written ∷ h) ≡ completed (since f (packet p out said written ∷ h)) (packets (f .pid) (packet p out said written ∷ h))
+  handed-more : (f : OpenedFilter) → IsOpen f h → handed f (packet p out said written ∷ h) ≡ completed (since f (packet p out said written ∷ h)) (packets (f .pid) (packet p out said written ∷ h))
   handed-more f i = go (ℕ-discrete (filterAt s (f .place) .area) own)
     where
       st : Stands s f
@@ -159,7 +159,7 @@ module _ (w : World) (h : List Accepted) (l : Ledger w h) (p out : List ℕ) (k 
           in-set (standsOn own) (s .filters) (f .place) freeFilter refl ∙ ap₂ (λ (b c : Bool). b && c) (st .isopen) (ne-eqb (filterAt s (f .place) .area) own n) in
           rw (i .kept, bit, ne-eqb (pidOf p) (f .pid) other, append-nil) (handed-open f h (i .kept) (l .hands f (i .opened)))
 
-  hands : (f : Opening) → openingOf (f .number) h ≡ there f → Handed f (packet p out said written ∷ h)
+  hands : (f : OpenedFilter) → openingOf (f .number) h ≡ there f → Handed f (packet p out said written ∷ h)
   hands f i = go (isClosed (f .number) h) refl
     where
       go : (b : Bool) → isClosed (f .number) h ≡ b → Handed f (packet p out said written ∷ h)
@@ -186,5 +186,5 @@ module _ (w : World) (h : List Accepted) (l : Ledger w h) (p out : List ℕ) (k 
         hands = hands;
       }
     where
-      before : (f : Opening) → IsOpen f (packet p out said written ∷ h) → IsOpen f h
+      before : (f : OpenedFilter) → IsOpen f (packet p out said written ∷ h) → IsOpen f h
       before f i = record { opened = i .opened; kept = i .kept }

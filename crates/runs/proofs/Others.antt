@@ -11,9 +11,9 @@ use Rattle.ground.specs.Answer.{refused, given}
 use Rattle.ground.specs.Perhaps.{Perhaps, there, absent}
 use Rattle.ground.specs.Walk.{keep}
 use Rattle.gather.specs.Rule.{Packet}
-use Rattle.driver.specs.Packet.{pidOf, packetFrom}
+use Rattle.packet_call.specs.Packet.{pidOf, packetFrom}
 use Rattle.runs.specs.Run.{Call, openCall, closeCall, packetCall, World, Event, openEvent, closeEvent, packetEvent, event, ours}
-use Rattle.runs.specs.History.{Opening, Accepted, opened, closed, packet, accepted, numbersGiven, opens, closes, openingOf, isOn, isClosed, isLast, moreOpens, unless, standing, areasTaken, packets, since, upToClose}
+use Rattle.runs.specs.History.{OpenedFilter, AcceptedCall, opened, closed, packet, accepted, numbersGiven, opens, closes, openingOf, isOn, isClosed, isLast, moreOpens, unless, standing, areasTaken, packets, since, upToClose}
 use Rattle.runs.specs.Answers.{answerTo}
 use Rattle.runs.specs.Demand.{worldAfter, logOf, history, concerns, questionOf}
 use Rattle.runs.proofs.Ledger.{all-before}
@@ -21,7 +21,7 @@ use Rattle.runs.proofs.Steps.{ledger}
 use Rattle.runs.proofs.Answers.{answers}
 
 -- a history without the packets of other PIDs
-abbrev pub thin : ℕ → List Accepted → List Accepted
+abbrev pub thin : ℕ → List AcceptedCall → List AcceptedCall
 thin pid [] = []
 thin pid (opened f ∷ h) = opened f ∷ thin pid h
 thin pid (closed number ∷ h) = closed number ∷ thin pid h
@@ -30,63 +30,63 @@ thin pid (packet p lent r out ∷ h) = cond (eqb (pidOf p) pid) (packet p lent r
 -- what passes packets over is the same of it
 module _ (pid : ℕ) where
   -- a packet is kept or not
-  either {ℓ} : {A : Type ℓ} (F : List Accepted → A) (b : Bool) (a : Accepted) (h : List Accepted) (x : A) → F (a ∷ thin pid h) ≡ x → F (thin pid h) ≡ x → F (cond b (a ∷ thin pid h) (thin pid h)) ≡ x
+  either {ℓ} : {A : Type ℓ} (F : List AcceptedCall → A) (b : Bool) (a : AcceptedCall) (h : List AcceptedCall) (x : A) → F (a ∷ thin pid h) ≡ x → F (thin pid h) ≡ x → F (cond b (a ∷ thin pid h) (thin pid h)) ≡ x
   either F true a h x yes-kept left-out = yes-kept
   either F false a h x yes-kept left-out = left-out
 
-  thin-numbers : (h : List Accepted) → numbersGiven (thin pid h) ≡ numbersGiven h
+  thin-numbers : (h : List AcceptedCall) → numbersGiven (thin pid h) ≡ numbersGiven h
   thin-numbers [] = refl
   thin-numbers (opened f ∷ h) = ap (λ (n : ℕ). n + 1) (thin-numbers h)
   thin-numbers (closed number ∷ h) = thin-numbers h
   thin-numbers (packet p lent r out ∷ h) = let e = thin-numbers h in either numbersGiven (eqb (pidOf p) pid) (packet p lent r out) h (numbersGiven h) e e
 
-  thin-opens : (q : ℕ) (h : List Accepted) → opens q (thin pid h) ≡ opens q h
+  thin-opens : (q : ℕ) (h : List AcceptedCall) → opens q (thin pid h) ≡ opens q h
   thin-opens q [] = refl
   thin-opens q (opened f ∷ h) = ap (λ (n : ℕ). cond (eqb (f .pid) q) 1 0 + n) (thin-opens q h)
   thin-opens q (closed number ∷ h) = thin-opens q h
   thin-opens q (packet p lent r out ∷ h) = let e = thin-opens q h in either (opens q) (eqb (pidOf p) pid) (packet p lent r out) h (opens q h) e e
 
-  pub thin-opening : (n : ℕ) (h : List Accepted) → openingOf n (thin pid h) ≡ openingOf n h
+  pub thin-opening : (n : ℕ) (h : List AcceptedCall) → openingOf n (thin pid h) ≡ openingOf n h
   thin-opening n [] = refl
   thin-opening n (opened f ∷ h) = ap (cond (eqb (f .number) n) (there f)) (thin-opening n h)
   thin-opening n (closed number ∷ h) = thin-opening n h
   thin-opening n (packet p lent r out ∷ h) = let e = thin-opening n h in either (openingOf n) (eqb (pidOf p) pid) (packet p lent r out) h (openingOf n h) e e
 
-  thin-closes : (q : ℕ) (h : List Accepted) → closes q (thin pid h) ≡ closes q h
+  thin-closes : (q : ℕ) (h : List AcceptedCall) → closes q (thin pid h) ≡ closes q h
   thin-closes q [] = refl
   thin-closes q (opened f ∷ h) = thin-closes q h
-  thin-closes q (closed number ∷ h) = ap₂ (λ (x : Perhaps Opening) (n : ℕ). cond (isOn q x) 1 0 + n) (thin-opening number h) (thin-closes q h)
+  thin-closes q (closed number ∷ h) = ap₂ (λ (x : Perhaps OpenedFilter) (n : ℕ). cond (isOn q x) 1 0 + n) (thin-opening number h) (thin-closes q h)
   thin-closes q (packet p lent r out ∷ h) = let e = thin-closes q h in either (closes q) (eqb (pidOf p) pid) (packet p lent r out) h (closes q h) e e
 
-  thin-closed : (n : ℕ) (h : List Accepted) → isClosed n (thin pid h) ≡ isClosed n h
+  thin-closed : (n : ℕ) (h : List AcceptedCall) → isClosed n (thin pid h) ≡ isClosed n h
   thin-closed n [] = refl
   thin-closed n (opened f ∷ h) = thin-closed n h
   thin-closed n (closed number ∷ h) = ap (λ (b : Bool). eqb number n || b) (thin-closed n h)
   thin-closed n (packet p lent r out ∷ h) = let e = thin-closed n h in either (isClosed n) (eqb (pidOf p) pid) (packet p lent r out) h (isClosed n h) e e
 
-  thin-area : (q : ℕ) (h : List Accepted) → moreOpens q (thin pid h) ≡ moreOpens q h
+  thin-area : (q : ℕ) (h : List AcceptedCall) → moreOpens q (thin pid h) ≡ moreOpens q h
   thin-area q h = ap₂ ltb (thin-closes q h) (thin-opens q h)
 
-  thin-standing : (h : List Accepted) → standing (thin pid h) ≡ standing h
+  thin-standing : (h : List AcceptedCall) → standing (thin pid h) ≡ standing h
   thin-standing [] = refl
-  thin-standing (opened f ∷ h) = ap (λ (l : List (Perhaps Opening)). set l (f .place) (there f)) (thin-standing h)
+  thin-standing (opened f ∷ h) = ap (λ (l : List (Perhaps OpenedFilter)). set l (f .place) (there f)) (thin-standing h)
   thin-standing (closed number ∷ h) = ap (map (unless number)) (thin-standing h)
   thin-standing (packet p lent r out ∷ h) = let e = thin-standing h in either standing (eqb (pidOf p) pid) (packet p lent r out) h (standing h) e e
 
-  thin-last : (x : Perhaps Opening) (h : List Accepted) → isLast x (thin pid h) ≡ isLast x h
+  thin-last : (x : Perhaps OpenedFilter) (h : List AcceptedCall) → isLast x (thin pid h) ≡ isLast x h
   thin-last absent h = refl
   thin-last (there f) h = ap not (thin-area (f .pid) h)
 
-  thin-taken : (h : List Accepted) → areasTaken (thin pid h) ≡ areasTaken h
+  thin-taken : (h : List AcceptedCall) → areasTaken (thin pid h) ≡ areasTaken h
   thin-taken [] = refl
   thin-taken (opened f ∷ h) = ap₂ (λ (n : ℕ) (b : Bool). n + cond b 0 1) (thin-taken h) (thin-area (f .pid) h)
   thin-taken (closed number ∷ h) =
       ap₂ (λ (n : ℕ) (b : Bool). n - cond b 1 0) (thin-taken h)
-      (ap (λ (x : Perhaps Opening). isLast x (closed number ∷ thin pid h)) (thin-opening number h) ∙ thin-last (openingOf number h) (closed number ∷ h))
+      (ap (λ (x : Perhaps OpenedFilter). isLast x (closed number ∷ thin pid h)) (thin-opening number h) ∙ thin-last (openingOf number h) (closed number ∷ h))
   thin-taken (packet p lent r out ∷ h) = let e = thin-taken h in either areasTaken (eqb (pidOf p) pid) (packet p lent r out) h (areasTaken h) e e
 
   -- of the PID's own packets none is missing
-  pub thin-packets : (h : List Accepted) → packets pid (thin pid h) ≡ packets pid h
+  pub thin-packets : (h : List AcceptedCall) → packets pid (thin pid h) ≡ packets pid h
   thin-packets [] = refl
   thin-packets (opened f ∷ h) = rw (thin-opens pid h, thin-closes pid h, thin-packets h)
   thin-packets (closed number ∷ h) = thin-packets h
@@ -97,7 +97,7 @@ module _ (pid : ℕ) where
       go true e q = rw e (ap (λ (l : List Packet). packetFrom p ∷ l) q)
       go false e q = q
 
-pub thin-since : (f : Opening) (h : List Accepted) → since f (thin (f .pid) h) ≡ since f h
+pub thin-since : (f : OpenedFilter) (h : List AcceptedCall) → since f (thin (f .pid) h) ≡ since f h
 thin-since f [] = refl
 thin-since f (opened g ∷ h) = ap (cond (eqb (g .number) (f .number)) 0) (thin-since f h)
 thin-since f (closed number ∷ h) = thin-since f h
@@ -109,7 +109,7 @@ thin-since f (packet p lent r out ∷ h) = go (eqb (pidOf p) (f .pid)) refl (thi
     go false e q = q
 
 -- a history up to a close, without the packets of other PIDs
-pub thin-up : (pid n : ℕ) (h : List Accepted) → upToClose n (thin pid h) ≡ thin pid (upToClose n h)
+pub thin-up : (pid n : ℕ) (h : List AcceptedCall) → upToClose n (thin pid h) ≡ thin pid (upToClose n h)
 thin-up pid n [] = refl
 thin-up pid n (opened f ∷ h) = rw (thin-closed pid n h) (go (isClosed n h) (thin-up pid n h))
   where
@@ -126,7 +126,7 @@ thin-up pid n (closed m ∷ h) = rw (thin-closed pid n h) (go (isClosed n h) (eq
     go false false q = refl
 thin-up pid n (packet p lent r out ∷ h) = go (isClosed n h) refl (eqb (pidOf p) pid) refl (thin-up pid n h)
   where
-    a : Accepted
+    a : AcceptedCall
     a = packet p lent r out
 
     go : (b : Bool) → isClosed n h ≡ b → (c : Bool) → eqb (pidOf p) pid ≡ c → upToClose n (thin pid h) ≡ thin pid (upToClose n h)
@@ -138,7 +138,7 @@ thin-up pid n (packet p lent r out ∷ h) = go (isClosed n h) refl (eqb (pidOf p
 
 -- ---- answers
 -- a call that is no packet of another PID is answered the same
-thin-answer : (pid : ℕ) (h : List Accepted) (c : Call) → concerns pid c ≡ true → answerTo (thin pid h) c ≡ answerTo h c
+thin-answer : (pid : ℕ) (h : List AcceptedCall) (c : Call) → concerns pid c ≡ true → answerTo (thin pid h) c ≡ answerTo h c
 thin-answer pid h (openCall q) e =
     rw (thin-numbers pid h, thin-standing pid h, thin-area pid q h, thin-taken pid h)
 thin-answer pid h (closeCall number) e = rw (thin-opening pid number h, thin-closed pid number h)
@@ -152,9 +152,9 @@ question-is w (packetCall p lent) = refl
 -- what a log accepted, without the packets of other PIDs
 pub accepted-thin : (pid : ℕ) (log : List Event) → accepted (keep (λ e. concerns pid (questionOf e)) log) ≡ thin pid (accepted log)
 accepted-thin pid [] = refl
-accepted-thin pid (openEvent q (given a) ∷ log) = ap (λ (h : List Accepted). opened (record { number = a .number; pid = q; place = a .place }) ∷ h) (accepted-thin pid log)
+accepted-thin pid (openEvent q (given a) ∷ log) = ap (λ (h : List AcceptedCall). opened (record { number = a .number; pid = q; place = a .place }) ∷ h) (accepted-thin pid log)
 accepted-thin pid (openEvent q (refused n) ∷ log) = accepted-thin pid log
-accepted-thin pid (closeEvent number (given u) ∷ log) = ap (λ (h : List Accepted). closed number ∷ h) (accepted-thin pid log)
+accepted-thin pid (closeEvent number (given u) ∷ log) = ap (λ (h : List AcceptedCall). closed number ∷ h) (accepted-thin pid log)
 accepted-thin pid (closeEvent number (refused n) ∷ log) = accepted-thin pid log
 accepted-thin pid (packetEvent p lent (given r) out ∷ log) = go (eqb (pidOf p) pid) refl (r .wanted) refl (accepted-thin pid log)
   where
@@ -163,7 +163,7 @@ accepted-thin pid (packetEvent p lent (given r) out ∷ log) = go (eqb (pidOf p)
         ≡ thin pid (cond c (packet p lent r out ∷ []) [] ++ accepted log)
     go true e true k q =
         ap (λ (b : Bool). cond b (packet p lent r out ∷ []) [] ++ accepted (keep (λ e. concerns pid (questionOf e)) log)) k
-        ∙ ap (λ (h : List Accepted). packet p lent r out ∷ h) q
+        ∙ ap (λ (h : List AcceptedCall). packet p lent r out ∷ h) q
         ∙ sym (ap (λ (b : Bool). cond b (packet p lent r out ∷ thin pid (accepted log)) (thin pid (accepted log))) e)
     go true e false k q = rw k q
     go false e true k q = rw e q
@@ -190,7 +190,7 @@ module _ (store : List ℕ) (whole : length store ≡ 32768) where
           ≡ cond b (event ours (worldAfter ours store cs) c ∷ keep (λ e. concerns pid (questionOf e)) (logOf ours store cs)) (keep (λ e. concerns pid (questionOf e)) (logOf ours store cs))
       go true e q =
           let same = ap accepted q ∙ accepted-thin pid (logOf ours store cs) in
-          let head = event-is (keep (concerns pid) cs) c ∙ ap (λ (h : List Accepted). answerTo h c) same ∙ thin-answer pid (history ours store cs) c e ∙ sym (event-is cs c) in
+          let head = event-is (keep (concerns pid) cs) c ∙ ap (λ (h : List AcceptedCall). answerTo h c) same ∙ thin-answer pid (history ours store cs) c e ∙ sym (event-is cs c) in
           ap₂ (λ (x : Event) (l : List Event). x ∷ l) head q
       go false e q = q
 

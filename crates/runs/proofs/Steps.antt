@@ -13,22 +13,22 @@ use Rattle.ground.specs.Walk.{Every}
 use Rattle.ground.specs.Perhaps.{there, absent}
 use Rattle.gather.specs.Memory.{contradictsOf}
 use Rattle.gather.specs.Kind.{contradicting}
-use Rattle.driver.specs.State.{fresh, isUsed, isOpen, areaOf, areaStart, freeArea, freeFilter}
-use Rattle.driver.specs.Sound.{sound}
-use Rattle.driver.specs.Packet.{pidOf}
-use Rattle.driver.proofs.Clauses.{sound-tells, sound-says}
-use Rattle.driver.proofs.Found.{found-area}
+use Rattle.state.specs.State.{fresh, isUsed, isOpen, areaOf, areaStart, freeArea, freeFilter}
+use Rattle.sound.specs.Sound.{sound}
+use Rattle.packet_call.specs.Packet.{pidOf}
+use Rattle.sound.proofs.Clauses.{sound-tells, sound-says}
+use Rattle.state.proofs.Found.{found-area}
 use Rattle.driver.proofs.StaysSound.{fresh-sound}
 use Rattle.driver.proofs.Cases.{open-ind, close-ind, packet-ind}
 use Rattle.runs.specs.Run.{Call, openCall, closeCall, packetCall, World, openEvent, closeEvent, packetEvent, after, event, start, ours}
-use Rattle.runs.specs.History.{Opening, Accepted, acceptedBy, isRefused, packets}
+use Rattle.runs.specs.History.{OpenedFilter, AcceptedCall, acceptedBy, isRefused, packets}
 use Rattle.runs.specs.Demand.{worldAfter, logOf, history}
 use Rattle.runs.proofs.Ledger.{areaAt, openingAt, Ledger, remembered-fine}
 use Rattle.runs.proofs.LedgerOpen.{open-ledger}
 use Rattle.runs.proofs.LedgerClose.{close-ledger}
 use Rattle.runs.proofs.LedgerPacket.{packet-ledger}
 
-absent-there : {f : Opening} → absent ≡ there f → ⊥
+absent-there : {f : OpenedFilter} → absent ≡ there f → ⊥
 absent-there e = let z : _≡_ {A = ℕ} 0 1 = cc in omega arith
 
 -- a list of one thing has it everywhere
@@ -58,7 +58,7 @@ fresh-ledger store e =
       hands = λ f i. absurd (absent-there i);
     }
 
-module _ (w : World) (h : List Accepted) (l : Ledger w h) where
+module _ (w : World) (h : List AcceptedCall) (l : Ledger w h) where
   pub step-ledger : (c : Call) → Ledger (after ours w c) (acceptedBy (event ours w c) ++ h)
   step-ledger (openCall pid) =
       open-ind (w .state) pid (λ o. Ledger (record { state = o .state; store = w .store }) (acceptedBy (openEvent pid (o .answer)) ++ h))

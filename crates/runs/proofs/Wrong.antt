@@ -10,10 +10,10 @@ use lib.ListN.{getD, replicate, length-replicate}
 use Rattle.ground.specs.Write.{put}
 use Rattle.gather.specs.Rule.{rule, walk, add, started}
 use Rattle.gather.specs.Kind.{classify, kindOf}
-use Rattle.driver.specs.Open.{openOf}
-use Rattle.driver.specs.Close.{closeOf}
-use Rattle.driver.specs.Packet.{Said, packetOf}
-use Rattle.driver.specs.Sound.{sound}
+use Rattle.open_call.specs.Open.{openOf}
+use Rattle.close_call.specs.Close.{closeOf}
+use Rattle.packet_call.specs.Packet.{Said, packetOf}
+use Rattle.sound.specs.Sound.{sound}
 use Rattle.runs.specs.Run.{Driver, Call, openCall, closeCall, packetCall}
 use Rattle.runs.specs.History.{isAccepted, remembered}
 use Rattle.runs.specs.Demand.{DemandThree, Statement}

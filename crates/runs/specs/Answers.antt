@@ -4,7 +4,7 @@ use mathlib.Core.List.{List, [], _∷_, _++_}
 use Prim.Native.Nat.{ℕ, _+_}
 use lib.Dec.{ltb, leb, eqb}
 use lib.ListN.{length, drop}
-use Rattle.ground.specs.House.{placeCount, lastNumber, leastOutput, lastFilterPid}
+use Rattle.ground.specs.House.{areaCount, placeCount, lastNumber, leastOutput, lastFilterPid}
 use Rattle.ground.specs.Answer.{Answer, refused, given}
 use Rattle.ground.specs.Perhaps.{Perhaps, there, absent}
 use Rattle.ground.specs.Refusal.{Row, judge, _when_}
@@ -13,41 +13,41 @@ use Rattle.ground.specs.Walk.{find}
 use Rattle.packet.specs.Packet.{packetRefusals, contents}
 use Rattle.gather.specs.Rule.{Outcome, rule, leavesNone}
 use Rattle.gather.specs.Kind.{join}
-use Rattle.driver.specs.Open.{Place}
+use Rattle.open_call.specs.Open.{Place}
 use Rattle.packet.specs.Payload.{payloadOf}
-use Rattle.driver.specs.Packet.{unwanted, pidOf, packetFrom, report}
+use Rattle.packet_call.specs.Packet.{unwanted, pidOf, packetFrom, report}
 use Rattle.runs.specs.Run.{Call, openCall, closeCall, packetCall, Event, openEvent, closeEvent, packetEvent}
-use Rattle.runs.specs.History.{Opening, Accepted, numbersGiven, openingOf, isOn, isClosed, moreOpens, standing, areasTaken, packets, remembered}
+use Rattle.runs.specs.History.{OpenedFilter, AcceptedCall, numbersGiven, openingOf, isOn, isClosed, moreOpens, standing, areasTaken, packets, remembered}
 
 -- ---- open: "12, 13, 14, 15"; the state of a run is sound, so 1 is never given
 -- nobody stands there
-abbrev pub isAbsent : Perhaps Opening → Bool
+abbrev pub isAbsent : Perhaps OpenedFilter → Bool
 isAbsent absent = true
 isAbsent (there f) = false
 
 -- "the lowest free place", or 32
-abbrev pub lowestFree : List Accepted → ℕ
+abbrev pub lowestFree : List AcceptedCall → ℕ
 lowestFree h = find isAbsent (standing h)
 
 -- "PID above 0x1FFE"; "all 65,535 numbers given"; "32 filters are open"; "no area has this PID and all 8 are taken"
-abbrev pub openRows : List Accepted → ℕ → List Row
+abbrev pub openRows : List AcceptedCall → ℕ → List Row
 openRows h pid =
     (12 when ltb lastFilterPid pid)
     ∷ (13 when leb lastNumber (numbersGiven h))
     ∷ (14 when leb placeCount (lowestFree h))
-    ∷ (15 when (not (moreOpens pid h) && leb 8 (areasTaken h)))
+    ∷ (15 when (not (moreOpens pid h) && leb areaCount (areasTaken h)))
     ∷ []
 
 -- "given in rising order", from 1 on
-abbrev pub openAnswer : List Accepted → ℕ → Answer Place
+abbrev pub openAnswer : List AcceptedCall → ℕ → Answer Place
 openAnswer h pid = judge refused (openRows h pid) (given (record { number = numbersGiven h + 1; place = lowestFree h }))
 
 -- ---- close: "16"
 -- the number was given and not closed
-abbrev pub isGiven : List Accepted → ℕ → Bool
+abbrev pub isGiven : List AcceptedCall → ℕ → Bool
 isGiven h number = not (isAbsent (openingOf number h)) && not (isClosed number h)
 
-abbrev pub closeAnswer : List Accepted → ℕ → Answer (Unit {0})
+abbrev pub closeAnswer : List AcceptedCall → ℕ → Answer (Unit {0})
 closeAnswer h number = judge refused ((16 when not (isGiven h number)) ∷ []) (given tt)
 
 -- ---- packet: "3, 2, 4, 5, 6, 7, 8; then, if the PID has no area, "not wanted"; then 10, 11"; the area never contradicts the state, so 9 is never given
@@ -58,11 +58,11 @@ abbrev pub lateRows : List ℕ → List Row
 lateRows p = (10 when not (eqb (contents p .scrambling) 0)) ∷ (11 when leavesNone (contents p .unitStart) (payloadOf p)) ∷ []
 
 -- what demand 2's rule makes of a packet after the accepted packets of its PID since the area was taken
-abbrev pub outcomeAfter : List Accepted → List ℕ → Outcome
+abbrev pub outcomeAfter : List AcceptedCall → List ℕ → Outcome
 outcomeAfter h p = rule (remembered (packets (pidOf p) h)) (packetFrom p)
 
 -- the places at which a filter on the PID stands
-abbrev pub placesAfter : List Accepted → ℕ → ℕ
+abbrev pub placesAfter : List AcceptedCall → ℕ → ℕ
 placesAfter h pid = setOf (isOn pid) (standing h)
 
 -- "Finished sections stand joined at the start of the output"; "Output bytes past the sections are unchanged"
@@ -70,7 +70,7 @@ abbrev pub written : Outcome → List ℕ → List ℕ
 written o lent = join (o .sections) ++ drop (length (join (o .sections))) lent
 
 -- a packet that is refused, or not wanted, writes nothing
-abbrev pub packetAnswer : List Accepted → List ℕ → List ℕ → Event
+abbrev pub packetAnswer : List AcceptedCall → List ℕ → List ℕ → Event
 packetAnswer h p lent =
     judge (λ n. packetEvent p lent (refused n) lent) (earlyRows p lent)
     (cond (moreOpens (pidOf p) h)
@@ -79,7 +79,7 @@ packetAnswer h p lent =
     (packetEvent p lent (given unwanted) lent))
 
 -- ---- the answer to any call
-abbrev pub answerTo : List Accepted → Call → Event
+abbrev pub answerTo : List AcceptedCall → Call → Event
 answerTo h (openCall pid) = openEvent pid (openAnswer h pid)
 answerTo h (closeCall number) = closeEvent number (closeAnswer h number)
 answerTo h (packetCall p lent) = packetAnswer h p lent

@@ -12,11 +12,11 @@ use Rattle.ground.specs.Set.{isIn}
 use Rattle.ground.specs.Walk.{Every, keep}
 use Rattle.ground.specs.Write.{put}
 use Rattle.gather.specs.Memory.{stateOf}
-use Rattle.driver.specs.State.{areaOf, isUsed, hasPid, areaStart, freeArea}
-use Rattle.driver.specs.Open.{Place, hasArea}
-use Rattle.driver.specs.Packet.{Said, pidOf, report}
+use Rattle.state.specs.State.{areaOf, isUsed, hasPid, areaStart, freeArea}
+use Rattle.open_call.specs.Open.{Place, hasArea}
+use Rattle.packet_call.specs.Packet.{Said, pidOf, report}
 use Rattle.runs.specs.Run.{Driver, Call, openCall, closeCall, packetCall, World, Event, openEvent, closeEvent, packetEvent, after, event, runFrom, logFrom, start, playFrom, heardFrom}
-use Rattle.runs.specs.History.{Opening, Accepted, opened, closed, packet, accepted, isAccepted, isRefused, opens, closes, openingOf, isOn, isClosed, moreOpens, standing, packets, since, upToClose, sectionsOf, handed, remembered, completed}
+use Rattle.runs.specs.History.{OpenedFilter, AcceptedCall, opened, closed, packet, accepted, isAccepted, isRefused, opens, closes, openingOf, isOn, isClosed, moreOpens, standing, packets, since, upToClose, sectionsOf, handed, remembered, completed}
 use Rattle.runs.specs.Answers.{answerTo, outcomeAfter, written}
 
 -- ---- a run from a fresh state and a store
@@ -27,7 +27,7 @@ abbrev pub logOf : Driver → List ℕ → List Call → List Event
 logOf d store calls = logFrom d (start store) calls
 
 -- what it accepted, last first
-abbrev pub history : Driver → List ℕ → List Call → List Accepted
+abbrev pub history : Driver → List ℕ → List Call → List AcceptedCall
 history d store calls = accepted (logOf d store calls)
 
 -- ---- what may be left out
@@ -44,7 +44,7 @@ questionOf (closeEvent number a) = closeCall number
 questionOf (packetEvent p lent a out) = packetCall p lent
 
 -- the call is a packet of a filter's PID, or its own close
-abbrev pub isOwn : Opening → Call → Bool
+abbrev pub isOwn : OpenedFilter → Call → Bool
 isOwn f (openCall q) = false
 isOwn f (closeCall number) = eqb number (f .number)
 isOwn f (packetCall p lent) = eqb (pidOf p) (f .pid)
@@ -56,13 +56,13 @@ heededFrom d w (c ∷ cs) = cond (isAccepted (event d (runFrom d w cs) c)) (c �
 
 -- ---- what the demand speaks of
 -- an accepted packet's answer counts the sections that stand in the output
-abbrev pub IsCounted : Accepted → Type 0
+abbrev pub IsCounted : AcceptedCall → Type 0
 IsCounted (opened f) = Unit {0}
 IsCounted (closed number) = Unit {0}
 IsCounted (packet p lent r out) = r .sections ≡ length (sectionsOf r out)
 
 -- a filter that is open on this PID stands at this place
-abbrev pub isOpenOn : ℕ → ℕ → List Accepted → Bool
+abbrev pub isOpenOn : ℕ → ℕ → List AcceptedCall → Bool
 isOpenOn pid place h = isOn pid (getD (standing h) place absent)
 
 -- the demand of a driver and a run of calls, last first, from a fresh state and a store
@@ -89,7 +89,7 @@ pub record DemandThree (d : Driver) (store : List ℕ) (calls : List Call) : Typ
   pub never : (number pid : ℕ) (a : Place) → isClosed number (history d store calls) ≡ true
       → event d (worldAfter d store calls) (openCall pid) ≡ openEvent pid (given a) → a .number ≡ number → ⊥
   -- nor is any number given twice
-  pub once : (number pid : ℕ) (a : Place) (f : Opening) → openingOf number (history d store calls) ≡ there f
+  pub once : (number pid : ℕ) (a : Place) (f : OpenedFilter) → openingOf number (history d store calls) ≡ there f
       → event d (worldAfter d store calls) (openCall pid) ≡ openEvent pid (given a) → a .number ≡ number → ⊥
   -- whatever is called next is answered by what was accepted before it, and by nothing else
   pub answers : (c : Call) → event d (worldAfter d store calls) c ≡ answerTo (history d store calls) c
@@ -110,13 +110,13 @@ pub record DemandThree (d : Driver) (store : List ℕ) (calls : List Call) : Typ
   pub counts : Every IsCounted (history d store calls)
   -- "What an open filter is handed is exactly the sections that demand 2's rule completes, since its open, from the accepted packets of its PID since the area was taken";
   -- what a filter is handed ends with its close
-  pub hands : (f : Opening) → openingOf (f .number) (history d store calls) ≡ there f
+  pub hands : (f : OpenedFilter) → openingOf (f .number) (history d store calls) ≡ there f
       → handed f (history d store calls)
       ≡ completed (since f (upToClose (f .number) (history d store calls))) (packets (f .pid) (upToClose (f .number) (history d store calls)))
   -- "No packet of another PID .. changes it": leaving out every packet of other PIDs, wherever it stands, leaves every other answer as it was
   pub others : (pid : ℕ) → logOf d store (keep (concerns pid) calls) ≡ keep (λ e. concerns pid (questionOf e)) (logOf d store calls)
   -- ".. and no later open or close by others changes it": of the later calls only the packets of a filter's PID and its own close count
-  pub alone : (f : Opening) (later before : List Call) → calls ≡ later ++ before → openingOf (f .number) (history d store before) ≡ there f
+  pub alone : (f : OpenedFilter) (later before : List Call) → calls ≡ later ++ before → openingOf (f .number) (history d store before) ≡ there f
       → handed f (history d store (keep (isOwn f) later ++ keep (concerns (f .pid)) before)) ≡ handed f (history d store calls)
   -- a call that is refused, or a packet that is not wanted, leaves the state and every byte of the store as they were
   pub still : (c : Call) → isAccepted (event d (worldAfter d store calls) c) ≡ false → after d (worldAfter d store calls) c ≡ worldAfter d store calls

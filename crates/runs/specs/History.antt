@@ -10,24 +10,24 @@ use Rattle.ground.specs.Set.{isIn}
 use Rattle.gather.specs.Rule.{State, Packet, blank}
 use Rattle.gather.specs.Run.{run}
 use Rattle.gather.specs.Kind.{cut}
-use Rattle.driver.specs.Packet.{Said, pidOf, packetFrom}
+use Rattle.packet_call.specs.Packet.{Said, pidOf, packetFrom}
 use Rattle.runs.specs.Run.{Event, openEvent, closeEvent, packetEvent}
 
 -- ---- what was accepted
 -- an accepted open: the PID asked for, and the number and the place answered
-pub record Opening : Type 0 where
+pub record OpenedFilter : Type 0 where
   pub number : ℕ
   pub pid : ℕ
   pub place : ℕ
 
 -- an accepted call with its answer: of a packet its bytes and the output lent for it, what was said, and the output after it
-pub data Accepted : Type 0 where
-  opened : Opening → Accepted
-  closed : ℕ → Accepted
-  packet : List ℕ → List ℕ → Said → List ℕ → Accepted
+pub data AcceptedCall : Type 0 where
+  opened : OpenedFilter → AcceptedCall
+  closed : ℕ → AcceptedCall
+  packet : List ℕ → List ℕ → Said → List ℕ → AcceptedCall
 
 -- what an event accepted: a refused call and a packet that is not wanted are nothing
-abbrev pub acceptedBy : Event → List Accepted
+abbrev pub acceptedBy : Event → List AcceptedCall
 acceptedBy (openEvent pid (given a)) = opened (record { number = a .number; pid = pid; place = a .place }) ∷ []
 acceptedBy (openEvent pid (refused n)) = []
 acceptedBy (closeEvent number (given u)) = closed number ∷ []
@@ -45,7 +45,7 @@ isAccepted (packetEvent p lent (given r) out) = r .wanted
 isAccepted (packetEvent p lent (refused n) out) = false
 
 -- what a log accepted, last first
-abbrev pub accepted : List Event → List Accepted
+abbrev pub accepted : List Event → List AcceptedCall
 accepted [] = []
 accepted (e ∷ log) = acceptedBy e ++ accepted log
 
@@ -60,68 +60,68 @@ isRefused m (packetEvent p lent (refused n) out) = eqb n m
 
 -- ---- opens and closes
 -- how many opens were accepted, and so how many numbers were given
-abbrev pub numbersGiven : List Accepted → ℕ
+abbrev pub numbersGiven : List AcceptedCall → ℕ
 numbersGiven [] = 0
 numbersGiven (opened f ∷ h) = numbersGiven h + 1
 numbersGiven (closed number ∷ h) = numbersGiven h
 numbersGiven (packet p lent r out ∷ h) = numbersGiven h
 
 -- how many opens of a PID were accepted
-abbrev pub opens : ℕ → List Accepted → ℕ
+abbrev pub opens : ℕ → List AcceptedCall → ℕ
 opens pid [] = 0
 opens pid (opened f ∷ h) = cond (eqb (f .pid) pid) 1 0 + opens pid h
 opens pid (closed number ∷ h) = opens pid h
 opens pid (packet p lent r out ∷ h) = opens pid h
 
 -- the open that gave a number
-abbrev pub openingOf : ℕ → List Accepted → Perhaps Opening
+abbrev pub openingOf : ℕ → List AcceptedCall → Perhaps OpenedFilter
 openingOf number [] = absent
 openingOf number (opened f ∷ h) = cond (eqb (f .number) number) (there f) (openingOf number h)
 openingOf number (closed n ∷ h) = openingOf number h
 openingOf number (packet p lent r out ∷ h) = openingOf number h
 
 -- the open that gave a number was of this PID
-abbrev pub isOn : ℕ → Perhaps Opening → Bool
+abbrev pub isOn : ℕ → Perhaps OpenedFilter → Bool
 isOn pid absent = false
 isOn pid (there f) = eqb (f .pid) pid
 
 -- how many closes of a PID were accepted: a close names a number, and the PID is that of the open that gave it
-abbrev pub closes : ℕ → List Accepted → ℕ
+abbrev pub closes : ℕ → List AcceptedCall → ℕ
 closes pid [] = 0
 closes pid (opened f ∷ h) = closes pid h
 closes pid (closed number ∷ h) = cond (isOn pid (openingOf number h)) 1 0 + closes pid h
 closes pid (packet p lent r out ∷ h) = closes pid h
 
 -- a close of this number was accepted
-abbrev pub isClosed : ℕ → List Accepted → Bool
+abbrev pub isClosed : ℕ → List AcceptedCall → Bool
 isClosed number [] = false
 isClosed number (opened f ∷ h) = isClosed number h
 isClosed number (closed n ∷ h) = eqb n number || isClosed number h
 isClosed number (packet p lent r out ∷ h) = isClosed number h
 
 -- "A PID has an area exactly while more of its opens than closes were accepted"
-abbrev pub moreOpens : ℕ → List Accepted → Bool
+abbrev pub moreOpens : ℕ → List AcceptedCall → Bool
 moreOpens pid h = ltb (closes pid h) (opens pid h)
 
 -- an open, unless it gave this number
-abbrev pub unless : ℕ → Perhaps Opening → Perhaps Opening
+abbrev pub unless : ℕ → Perhaps OpenedFilter → Perhaps OpenedFilter
 unless number absent = absent
 unless number (there f) = cond (eqb (f .number) number) absent (there f)
 
 -- the 32 filter places: at each the open whose filter stands there, if one does
-abbrev pub standing : List Accepted → List (Perhaps Opening)
+abbrev pub standing : List AcceptedCall → List (Perhaps OpenedFilter)
 standing [] = replicate 32 absent
 standing (opened f ∷ h) = set (standing h) (f .place) (there f)
 standing (closed number ∷ h) = map (unless number) (standing h)
 standing (packet p lent r out ∷ h) = standing h
 
 -- a close of a number leaves its PID without an area
-abbrev pub isLast : Perhaps Opening → List Accepted → Bool
+abbrev pub isLast : Perhaps OpenedFilter → List AcceptedCall → Bool
 isLast absent h = false
 isLast (there f) h = not (moreOpens (f .pid) h)
 
 -- how many areas are taken: an open takes one where its PID has none, and the last close on a PID frees it
-abbrev pub areasTaken : List Accepted → ℕ
+abbrev pub areasTaken : List AcceptedCall → ℕ
 areasTaken [] = 0
 areasTaken (opened f ∷ h) = areasTaken h + cond (moreOpens (f .pid) h) 0 1
 areasTaken (closed number ∷ h) = areasTaken h - cond (isLast (openingOf number h) (closed number ∷ h)) 1 0
@@ -129,21 +129,21 @@ areasTaken (packet p lent r out ∷ h) = areasTaken h
 
 -- ---- packets
 -- the accepted packets of a PID since its area was taken, last first: an open takes the area where as many of the PID's opens as closes were accepted before it
-abbrev pub packets : ℕ → List Accepted → List Packet
+abbrev pub packets : ℕ → List AcceptedCall → List Packet
 packets pid [] = []
 packets pid (opened f ∷ h) = cond (eqb (f .pid) pid && eqb (opens pid h) (closes pid h)) [] (packets pid h)
 packets pid (closed number ∷ h) = packets pid h
 packets pid (packet p lent r out ∷ h) = cond (eqb (pidOf p) pid) (packetFrom p ∷ packets pid h) (packets pid h)
 
 -- how many accepted packets of its PID came since a filter's open
-abbrev pub since : Opening → List Accepted → ℕ
+abbrev pub since : OpenedFilter → List AcceptedCall → ℕ
 since f [] = 0
 since f (opened g ∷ h) = cond (eqb (g .number) (f .number)) 0 (since f h)
 since f (closed number ∷ h) = since f h
 since f (packet p lent r out ∷ h) = cond (eqb (pidOf p) (f .pid)) (suc (since f h)) (since f h)
 
 -- a history up to the close of a number, the whole where it was not closed
-abbrev pub upToClose : ℕ → List Accepted → List Accepted
+abbrev pub upToClose : ℕ → List AcceptedCall → List AcceptedCall
 upToClose number [] = []
 upToClose number (opened f ∷ h) = cond (isClosed number h) (upToClose number h) (opened f ∷ h)
 upToClose number (closed n ∷ h) = cond (isClosed number h) (upToClose number h) (cond (eqb n number) h (closed n ∷ h))
@@ -155,11 +155,11 @@ abbrev pub sectionsOf : Said → List ℕ → List (List ℕ)
 sectionsOf r out = cut (take (r .bytes) out)
 
 -- what one packet handed to a filter: those sections, where the answer's set has its place
-abbrev pub handedBy : Opening → Said → List ℕ → List (List ℕ)
+abbrev pub handedBy : OpenedFilter → Said → List ℕ → List (List ℕ)
 handedBy f r out = cond (isIn (f .place) (r .places)) (sectionsOf r out) []
 
 -- what a filter was handed by the accepted packets from its open to its close, in order
-abbrev pub handed : Opening → List Accepted → List (List ℕ)
+abbrev pub handed : OpenedFilter → List AcceptedCall → List (List ℕ)
 handed f [] = []
 handed f (opened g ∷ h) = cond (eqb (g .number) (f .number)) [] (handed f h)
 handed f (closed number ∷ h) = handed f h

@@ -2,11 +2,11 @@
 use mathlib.Core.List.{List, [], _∷_}
 use Prim.Native.Nat.{ℕ}
 use Rattle.ground.specs.Answer.{Answer}
-use Rattle.driver.specs.State.{fresh}
-use Rattle.driver.specs.Open.{Place, AfterOpen, openOf}
-use Rattle.driver.specs.Close.{AfterClose, closeOf}
-use Rattle.driver.specs.Packet.{Said, AfterPacket, packetOf}
-use Rattle.driver.specs.declared.state.State.{State}
+use Rattle.state.specs.State.{fresh}
+use Rattle.open_call.specs.Open.{Place, AfterOpen, openOf}
+use Rattle.close_call.specs.Close.{AfterClose, closeOf}
+use Rattle.packet_call.specs.Packet.{Said, AfterPacket, packetOf}
+use Rattle.state.specs.declared.State.{State}
 
 -- a driver, by what its three calls leave. The demand is stated of any, so that a wrong one can be held to it
 pub record Driver : Type 0 where

@@ -10,13 +10,13 @@ use Rattle.ground.specs.Set.{setOf}
 use Rattle.ground.specs.Walk.{Every}
 use Rattle.ground.specs.Write.{put}
 use Rattle.section.specs.Section.{sectionSize}
-use Rattle.driver.specs.State.{isFree, standsOn, areaOf, placeOf, freeArea}
-use Rattle.driver.specs.Open.{AfterOpen, openOf}
-use Rattle.driver.specs.Close.{AfterClose, closeOf, areaAt}
-use Rattle.driver.specs.Packet.{Said, AfterPacket, unwanted, asGiven, pidOf, packetOf}
-use Rattle.driver.specs.declared.state.Area.{Area}
-use Rattle.driver.specs.declared.state.Filter.{Filter}
-use Rattle.driver.specs.declared.state.State.{State}
+use Rattle.state.specs.State.{isFree, standsOn, areaOf, placeOf, freeArea}
+use Rattle.open_call.specs.Open.{AfterOpen, openOf}
+use Rattle.close_call.specs.Close.{AfterClose, closeOf, areaAt}
+use Rattle.packet_call.specs.Packet.{Said, AfterPacket, unwanted, asGiven, pidOf, packetOf}
+use Rattle.state.specs.declared.Area.{Area}
+use Rattle.state.specs.declared.Filter.{Filter}
+use Rattle.state.specs.declared.State.{State}
 use Rattle.runs.specs.Run.{Driver}
 use Rattle.runs.specs.Demand.{Statement}
 

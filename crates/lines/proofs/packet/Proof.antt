@@ -1,7 +1,7 @@
 -- One case for each answer; a wanted packet has two pieces, one behind the other.
 -- Assumes nothing.
 use mathlib.Core.Path.{refl}
-use Rattle.driver.specs.Packet.{toldReport}
+use Rattle.packet_call.specs.Packet.{toldReport}
 use Rattle.text.specs.Text.{upTo}
 use Rattle.text.proofs.Laws.{next}
 use Rattle.lines.specs.Lines.{markLines, sectionLines}

@@ -3,7 +3,7 @@
 use mathlib.Core.Path.{_∙_, ap, ap₂}
 use Prim.Native.Nat.{ℕ}
 use denote.Ref.{now}
-use Rattle.driver.specs.Packet.{AfterPacket, pidOf}
+use Rattle.packet_call.specs.Packet.{AfterPacket, pidOf}
 use Rattle.text.specs.Text.{upTo, withBytes}
 use Rattle.lines.specs.Lines.{linesOf}
 use Rattle.pieces.specs.Input.{Work}

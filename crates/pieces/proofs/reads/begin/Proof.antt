@@ -2,8 +2,8 @@
 -- Assumes nothing.
 use mathlib.Core.Path.{_∙_, ap}
 use mathlib.Core.Bool.{true}
-use Rattle.driver.specs.Open.{AfterOpen, openOf}
-use Rattle.driver.specs.declared.state.State.{State}
+use Rattle.open_call.specs.Open.{AfterOpen, openOf}
+use Rattle.state.specs.declared.State.{State}
 use borrow.Author.Needs.{needs}
 use Rattle.pieces.proofs.reads.begin.Statement.{statement}
 use Rattle.pieces.proofs.reads.begin.Tie as tie

@@ -1,0 +1,2 @@
+pub mod CloseStaysSound
+pub mod Claims

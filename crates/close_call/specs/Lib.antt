@@ -1,0 +1,3 @@
+pub mod Close
+pub mod Promises
+pub mod Claims

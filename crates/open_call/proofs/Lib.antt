@@ -1,0 +1,2 @@
+pub mod OpenStaysSound
+pub mod Claims

@@ -1,0 +1,4 @@
+pub mod PutBack
+pub mod PacketRead
+pub mod Order
+pub mod Claims

@@ -1,0 +1,78 @@
+-- The packet call's order: each test that applies decides, and between the first ones and the last three the packet's area does.
+-- Assumes nothing.
+use mathlib.Core.Path.{_≡_}
+use mathlib.Core.Bool.{Bool, true, false, not}
+use mathlib.Core.List.{List}
+use Prim.Native.Nat.{ℕ, _≤_, _<_}
+use borrow.Author.Tests.{le-leb, lt-leb, ltb-false, eq-eqb, ne-eqb, eqb-true, not-false}
+use lib.Dec.{eqb, ltb}
+use lib.ListN.{length, getD}
+use Rattle.ground.specs.Answer.{refused, given}
+use Rattle.ground.specs.Refusal.{Silent}
+use Rattle.ground.proofs.Judged.{refused-by}
+use Rattle.ground.proofs.Refusal as table
+use Rattle.ground.proofs.Test.{neither}
+use Rattle.packet.specs.Packet.{contents, readPacket, packetRefusals}
+use Rattle.packet.specs.Payload.{payloadOf}
+use Rattle.gather.specs.Rule.{leavesNone}
+use Rattle.gather.specs.Memory.{contradictsOf}
+use Rattle.state.specs.State.{areaOf, areaStart, freeArea}
+use Rattle.state.specs.declared.State.{State}
+use Rattle.sound.specs.Sound.{sound}
+use Rattle.packet_call.specs.Packet.{packetOf, asGiven, unwanted, isWrongSize, pidOf, outcome, putBack, afterReading, afterTests}
+
+module _ (s : State) (p store out : List ℕ) where
+  pub packet-unsound : sound s ≡ false → packetOf s p store out ≡ asGiven s store out (refused 1)
+  unfolding packetOf
+  packet-unsound e = rw e
+
+  pub packet-sizes : sound s ≡ true → isWrongSize store out ≡ true → packetOf s p store out ≡ asGiven s store out (refused 3)
+  unfolding packetOf
+  packet-sizes e w = rw (e, w)
+
+  pub packet-refused : (n : ℕ) → sound s ≡ true → isWrongSize store out ≡ false → readPacket p ≡ refused n → packetOf s p store out ≡ asGiven s store out (refused n)
+  unfolding packetOf
+  packet-refused n e w r =
+      rw (e, w)
+      (table.refused (λ n. asGiven s store out (refused n)) (afterReading s (areaOf (pidOf p) (s .areas)) p store out) n (packetRefusals p) (refused-by (packetRefusals p) (contents p) n r))
+
+  pub packet-read : sound s ≡ true → isWrongSize store out ≡ false → Silent (packetRefusals p)
+      → packetOf s p store out ≡ afterReading s (areaOf (pidOf p) (s .areas)) p store out
+  unfolding packetOf
+  packet-read e w r = rw (e, w) (table.accepted (λ n. asGiven s store out (refused n)) (afterReading s (areaOf (pidOf p) (s .areas)) p store out) (packetRefusals p) r)
+
+-- the area decides whether the packet is wanted
+module _ (s : State) (i : ℕ) (p store out : List ℕ) where
+  pub reading-unwanted : length (s .areas) ≤ i → afterReading s i p store out ≡ asGiven s store out (given unwanted)
+  reading-unwanted h = rw (le-leb (length (s .areas)) i h)
+
+  pub reading-wanted : i < length (s .areas) → afterReading s i p store out ≡ afterTests s i p store out
+  reading-wanted h = rw (lt-leb (length (s .areas)) i h)
+
+-- the last three tests of a wanted packet
+module _ (s : State) (i : ℕ) (p store out : List ℕ) where
+  abbrev contradicts : Bool
+  contradicts = contradictsOf (getD (s .areas) i freeArea .marks .held) store (areaStart i)
+
+  abbrev scrambling : ℕ
+  scrambling = contents p .scrambling
+
+  pub tests-contradict : contradicts ≡ true → afterTests s i p store out ≡ asGiven s store out (refused 9)
+  tests-contradict e = rw e
+
+  pub tests-scrambled : contradicts ≡ false → (scrambling ≡ 0 → ⊥) → afterTests s i p store out ≡ asGiven s store out (refused 10)
+  tests-scrambled e n = rw (e, ne-eqb scrambling 0 n)
+
+  pub tests-none-left : contradicts ≡ false → scrambling ≡ 0 → leavesNone (contents p .unitStart) (payloadOf p) ≡ true
+      → afterTests s i p store out ≡ asGiven s store out (refused 11)
+  tests-none-left e z l = rw (e, eq-eqb scrambling 0 z, l)
+
+  pub tests-passed : contradicts ≡ false → scrambling ≡ 0 → leavesNone (contents p .unitStart) (payloadOf p) ≡ false
+      → afterTests s i p store out ≡ putBack s i (outcome s i p store) store out
+  tests-passed e z l = rw (e, eq-eqb scrambling 0 z, l)
+
+-- sizes that are not wrong
+pub sizes-right : (store out : List ℕ) → isWrongSize store out ≡ false → (length store ≡ 32768) × (4278 ≤ length out)
+sizes-right store out e =
+    let parts = neither (not (eqb (length store) 32768)) (ltb (length out) 4278) e in
+    (eqb-true (length store) 32768 (not-false (eqb (length store) 32768) (parts .0)), ltb-false (length out) 4278 (parts .1))

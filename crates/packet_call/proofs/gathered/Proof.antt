@@ -1,0 +1,118 @@
+-- Gathering is never refused here, since the sizes serve and the marks of a sound state are sound; what it answers is handed on.
+-- Assumes nothing.
+use mathlib.Core.Path.{_≡_, sym, _∙_, ap}
+use lib.ListN.{length, getD}
+use denote.Ref.{now}
+use borrow.Author.Needs.{needs}
+use Rattle.ground.proofs.Walk.{mapped-length}
+use Rattle.gather.specs.Rule.{Outcome, rule}
+use Rattle.gather.specs.Memory.{stateOf, toldGathering, leaves}
+use Rattle.gather.specs.declared.Gathering.{Gathering}
+use Rattle.state.specs.State.{areaStart, freeArea}
+use Rattle.packet_call.proofs.PutBack.{gathering-serves, done-apart, taken-is}
+use Rattle.packet_call.proofs.gathered.Statement.{statement}
+use Rattle.packet_call.proofs.gathered.Tie as tie
+
+mul-area : tie.Need-mul-area
+mul-area c = search needs
+
+array-copy-out-area : tie.Need-array-copy-out-area
+array-copy-out-area c = search needs
+
+mul-gather : tie.Need-mul-gather
+mul-gather c = search needs
+
+gather-requires : tie.Need-gather-requires
+gather-requires c κs = search needs
+
+enum-known-gathering : tie.Need-enum-known-gathering
+enum-known-gathering c = search needs
+
+unhandled-requires : tie.Need-unhandled-requires
+unhandled-requires c κs = search needs
+
+enum-known-gathering-2 : tie.Need-enum-known-gathering-2
+enum-known-gathering-2 c = search needs
+
+mul-areas : tie.Need-mul-areas
+mul-areas c = search needs
+
+array-set-from-areas : tie.Need-array-set-from-areas
+array-set-from-areas c = search needs
+
+cast-places-on : tie.Need-cast-places-on
+cast-places-on c = search needs
+
+places-on-requires : tie.Need-places-on-requires
+places-on-requires c κs = search needs
+
+same-length : tie.Need-same-length
+same-length c = search needs
+
+same-length-2 : tie.Need-same-length-2
+same-length-2 c = search needs
+
+returns : tie.Need-returns
+returns c =
+    let a = c .before .before .before .before .before .before .before .before .before .before .before .before .before .before .before .before .before .before .args in
+    let pre = c .before .before .before .before .before .before .before .before .before .before .before .before .before .before .before .before .before .before .pre in
+    let good = c .before .before .before .before .before .before .before .before .before .before .before .before .before .before .before .before .before .before .good in
+    let gather = c .before .before .before .before .before .before .before .before .gather in
+    let gathering = c .before .before .gathering in
+    let s = a .state in
+    let payload = now (a .payload) in
+    let store = now (a .store) in
+    let out = now (a .out) in
+    let long : length (s .areas) ≡ 8 = search (needs, mapped-length, good) in
+    let o : Outcome = rule (stateOf (getD (s .areas) (a .i) freeArea .marks) store (areaStart (a .i))) (record { counter = a .counter; start = a .start; payload = payload }) in
+    let served = gather .ensures ∙ gathering-serves s (a .i) (a .counter) (a .start) payload store out long (pre .0) (pre .1 .0) (pre .1 .1) (pre .1 .2) in
+    absurd
+    (done-apart o store out _ _ (a .i) _
+    (ap (λ (r : Gathering). leaves (toldGathering r) (gather .last .1 .1 .1 .1 .0) (gather .last .1 .1 .1 .1 .1 .1 .0)) (sym (gathering .given .1))
+    ∙ served))
+
+same-length-3 : tie.Need-same-length-3
+same-length-3 c = search needs
+
+same-length-4 : tie.Need-same-length-4
+same-length-4 c = search needs
+
+returns-2 : tie.Need-returns-2
+returns-2 c =
+    let a = c .before .before .before .before .before .before .before .before .before .before .before .before .before .before .before .before .before .before .before .before .args in
+    let pre = c .before .before .before .before .before .before .before .before .before .before .before .before .before .before .before .before .before .before .before .before .pre in
+    let good = c .before .before .before .before .before .before .before .before .before .before .before .before .before .before .before .before .before .before .before .before .good in
+    let gather = c .before .before .before .before .before .before .before .before .before .before .gather in
+    let gathering2 = c .before .before .before .before .gathering2 in
+    let s = a .state in
+    let payload = now (a .payload) in
+    let store = now (a .store) in
+    let out = now (a .out) in
+    let long : length (s .areas) ≡ 8 = search (needs, mapped-length, good) in
+    let o : Outcome = rule (stateOf (getD (s .areas) (a .i) freeArea .marks) store (areaStart (a .i))) (record { counter = a .counter; start = a .start; payload = payload }) in
+    let served = gather .ensures ∙ gathering-serves s (a .i) (a .counter) (a .start) payload store out long (pre .0) (pre .1 .0) (pre .1 .1) (pre .1 .2) in
+    taken-is s (a .i) o store out _ _ (gathering2 .given .0 .0) _ (c .places-on .ensures)
+    (ap (λ (r : Gathering). leaves (toldGathering r) (gather .last .1 .1 .1 .1 .0) (gather .last .1 .1 .1 .1 .1 .1 .0)) (sym (gathering2 .given .1))
+    ∙ served)
+
+pub gathered-spec : {M : Type 1} → statement M
+gathered-spec =
+    tie.close
+    (tie.spec
+    mul-area
+    array-copy-out-area
+    mul-gather
+    gather-requires
+    enum-known-gathering
+    unhandled-requires
+    enum-known-gathering-2
+    mul-areas
+    array-set-from-areas
+    cast-places-on
+    places-on-requires
+    same-length
+    same-length-2
+    returns
+    same-length-3
+    same-length-4
+    returns-2)

@@ -1,0 +1,4 @@
+pub mod Pass
+pub mod Clauses
+pub mod Pids
+pub mod Claims

@@ -1,0 +1,311 @@
+-- One pass over the filter places finds out what three clauses of soundness ask: the places are in range, the users are counted, and numbers of different classes differ.
+-- Assumes nothing.
+use mathlib.Core.Path.{_≡_, refl, sym, _∙_, ap, ap₂}
+use mathlib.Core.Bool.{Bool, true, false, cond, not, _&&_, _||_, false≢true}
+use mathlib.Core.List.{List, [], _∷_}
+use Prim.Native.Nat.{ℕ, zero, suc, _+_, _%_, _≤_, _<_, suc-le-suc, zero-le}
+use native.Mathlib.Nat.{mod-lt, zero-add, add-zero, add-suc, suc-add, not-suc-le-zero, le-of-suc-le-suc}
+use native.Mathlib.Numerals.{add-one}
+use native.Mathlib.Omega.{arith}
+use borrow.Author.Tests.{eq-eqb, ne-eqb, eqb-true, ltb-true, lt-ltb}
+use native.Mathlib.Decide.{ℕ-discrete, decLt}
+use lib.Dec.{eqb, ltb, lit<}
+use lib.ListN.{length, drop, getD, set, replicate, getD-replicate, length-set, drop-of-length-le, List·getD-eq-default}
+use lib.Seq.{drop-cons, getD-set-same, getD-set-other}
+use Rattle.ground.specs.Walk.{all, apart, count}
+use Rattle.ground.proofs.Test.{both-true, true-both, neither}
+use Rattle.ground.proofs.Walk.{all-at, all-of, all-goes, all-ends, apart-of, total-turn, total-at, count-le}
+use Rattle.state.specs.State.{isOpen, isUsed, standsOn, freeArea, freeFilter}
+use Rattle.state.specs.declared.Area.{Area}
+use Rattle.state.specs.declared.Filter.{Filter}
+use Rattle.sound.specs.Sound.{soundFilter, counted, sameNumber}
+use Rattle.sound.specs.Steps.{agree, fitsPlace, countedIn, metIn, isMet, classOf}
+
+-- ---- counts and users
+pub agree-turn : (counts : List ℕ) (areas : List Area) (i : ℕ) → i < length counts → i < length areas
+    → agree (drop i counts) (drop i areas) ≡ (eqb (getD areas i freeArea .users) (getD counts i 0) && agree (drop (suc i) counts) (drop (suc i) areas))
+agree-turn counts areas i p q = ap₂ agree (drop-cons counts i 0 p) (drop-cons areas i freeArea q)
+
+-- right counts agree exactly where the users are counted
+pub agree-counted : (filters : List Filter) (i : ℕ) (counts : List ℕ) (areas : List Area) → length counts ≡ length areas
+    → ((k : ℕ) → k < length areas → getD counts k 0 ≡ count (standsOn (i + k)) filters) → agree counts areas ≡ counted filters i areas
+agree-counted filters i [] [] e right = refl
+agree-counted filters i [] (a ∷ areas) e right = absurd (omega arith)
+agree-counted filters i (n ∷ counts) [] e right = absurd (omega arith)
+agree-counted filters i (n ∷ counts) (a ∷ areas) e right =
+    ap₂ (λ (m : ℕ) (b : Bool). eqb (a .users) m && b)
+    (right 0 (suc-le-suc zero-le) ∙ ap (λ (k : ℕ). count (standsOn k) filters) (add-zero i))
+    (agree-counted filters (suc i) counts areas (omega arith)
+    (λ k h. right (suc k) (suc-le-suc h) ∙ ap (λ (j : ℕ). count (standsOn j) filters) (add-suc i k ∙ sym (suc-add i k))))
+
+-- ---- one place counted
+counted-in : (counts : List ℕ) (f : Filter) (k : ℕ) → k < length counts → getD (countedIn counts f) k 0 ≡ getD counts k 0 + cond (standsOn k f) 1 0
+counted-in counts f k b = go (isOpen f) (ℕ-discrete (f .area) k)
+  where
+    go : (o : Bool) → Dec (f .area ≡ k)
+        → getD (cond o (set counts (f .area) (getD counts (f .area) 0 + 1)) counts) k 0 ≡ getD counts k 0 + cond (o && eqb (f .area) k) 1 0
+    go false d = sym (add-zero (getD counts k 0))
+    go true (yes e) = rw (e, eq-eqb k k refl) (getD-set-same counts k (getD counts k 0 + 1) 0 b)
+    go true (no n) = rw (ne-eqb (f .area) k n, add-zero) (getD-set-other counts (f .area) k (getD counts (f .area) 0 + 1) 0 (λ e. n (sym e)))
+
+-- counting a place moves one user from the places left to the counts
+pub counted-turn : (filters : List Filter) (counts : List ℕ) (i k : ℕ) → i < length filters → k < length counts
+    → getD (countedIn counts (getD filters i freeFilter)) k 0 + count (standsOn k) (drop (suc i) filters) ≡ getD counts k 0 + count (standsOn k) (drop i filters)
+counted-turn filters counts i k h b =
+    let e = counted-in counts (getD filters i freeFilter) k b in
+    let q = total-turn (λ f. cond (standsOn k f) 1 0) filters i freeFilter h in
+    omega arith
+
+pub length-counted : (counts : List ℕ) (f : Filter) → length (countedIn counts f) ≡ length counts
+length-counted counts f = go (isOpen f)
+  where
+    go : (o : Bool) → length (cond o (set counts (f .area) (getD counts (f .area) 0 + 1)) counts) ≡ length counts
+    go true = length-set counts (f .area) (getD counts (f .area) 0 + 1)
+    go false = refl
+
+-- ---- classes met
+-- the first i places have no two numbers alike, and the class of each open one is met
+pub record Met (filters : List Filter) (met : List ℕ) (i : ℕ) : Type 0 where
+  pub marked : (j : ℕ) → j < i → isOpen (getD filters j freeFilter) ≡ true → getD met (classOf (getD filters j freeFilter)) 0 ≡ 1
+  pub differ : (j k : ℕ) → j < k → k < i → sameNumber (getD filters j freeFilter) (getD filters k freeFilter) ≡ false
+
+pub met-none : (filters : List Filter) (met : List ℕ) → Met filters met 0
+met-none filters met = record { marked = λ j h. absurd (not-suc-le-zero h); differ = λ j k h b. absurd (not-suc-le-zero b) }
+
+pub length-met : (met : List ℕ) (f : Filter) → length (metIn met f) ≡ length met
+length-met met f = go (isOpen f)
+  where
+    go : (o : Bool) → length (cond o (set met (classOf f) 1) met) ≡ length met
+    go true = length-set met (classOf f) 1
+    go false = refl
+
+-- a class that is met stays met
+stays-met : (met : List ℕ) (f : Filter) (k : ℕ) → k < length met → getD met k 0 ≡ 1 → getD (metIn met f) k 0 ≡ 1
+stays-met met f k h e = go (isOpen f) (ℕ-discrete k (classOf f))
+  where
+    go : (o : Bool) → Dec (k ≡ classOf f) → getD (cond o (set met (classOf f) 1) met) k 0 ≡ 1
+    go false d = e
+    go true (yes q) = rw (sym q) (getD-set-same met k 1 0 h)
+    go true (no n) = getD-set-other met (classOf f) k 1 0 n ∙ e
+
+-- an open filter's class is met after it
+now-met : (met : List ℕ) (f : Filter) → classOf f < length met → isOpen f ≡ true → getD (metIn met f) (classOf f) 0 ≡ 1
+now-met met f h o = rw o (getD-set-same met (classOf f) 1 0 h)
+
+-- an earlier filter whose class is met does not have the number of one whose class is not
+apart-now : (met : List ℕ) (f g : Filter) → isMet met g ≡ false → (isOpen f ≡ true → getD met (classOf f) 0 ≡ 1) → sameNumber f g ≡ false
+apart-now met f g unmet marked = go (isOpen f) refl (ℕ-discrete (f .number) (g .number))
+  where
+    go : (o : Bool) → isOpen f ≡ o → Dec (f .number ≡ g .number) → (o && eqb (f .number) (g .number)) ≡ false
+    go false e d = refl
+    go true e (no n) = ne-eqb (f .number) (g .number) n
+    go true e (yes q) =
+        absurd
+        (false≢true
+        (sym unmet
+        ∙ true-both (isOpen g) _ (ap (λ (n : ℕ). not (eqb n 0)) (sym q) ∙ e)
+        (ap (λ (n : ℕ). not (eqb n 0)) (ap (λ (n : ℕ). getD met (n % 64) 0) (sym q) ∙ marked e))))
+
+pub met-turn : (filters : List Filter) (met : List ℕ) (i : ℕ) → length met ≡ 64 → isMet met (getD filters i freeFilter) ≡ false
+    → Met filters met i → Met filters (metIn met (getD filters i freeFilter)) (i + 1)
+met-turn filters met i long unmet m = record { marked = marks; differ = differs }
+  where
+    room : (f : Filter) → classOf f < length met
+    room f = rw long (mod-lt (f .number) (lit< tt))
+
+    marks : (j : ℕ) → j < i + 1 → isOpen (getD filters j freeFilter) ≡ true
+        → getD (metIn met (getD filters i freeFilter)) (classOf (getD filters j freeFilter)) 0 ≡ 1
+    marks j h o = go (ℕ-discrete j i)
+      where
+        go : Dec (j ≡ i) → getD (metIn met (getD filters i freeFilter)) (classOf (getD filters j freeFilter)) 0 ≡ 1
+        go (yes e) = rw e (now-met met (getD filters i freeFilter) (room (getD filters i freeFilter)) (rw e at o))
+        go (no n) = stays-met met (getD filters i freeFilter) (classOf (getD filters j freeFilter)) (room (getD filters j freeFilter)) (m .marked j (omega arith) o)
+
+    differs : (j k : ℕ) → j < k → k < i + 1 → sameNumber (getD filters j freeFilter) (getD filters k freeFilter) ≡ false
+    differs j k h b = go (ℕ-discrete k i)
+      where
+        go : Dec (k ≡ i) → sameNumber (getD filters j freeFilter) (getD filters k freeFilter) ≡ false
+        go (yes e) = rw e (apart-now met (getD filters j freeFilter) (getD filters i freeFilter) unmet (m .marked j (omega arith)))
+        go (no n) = m .differ j k h (omega arith)
+
+-- ---- the three clauses
+-- an area that does not exist has no users, so whoever stands on a used one stands on one of them
+sound-fits : (next : ℕ) (areas : List Area) (f : Filter) → length areas ≡ 8 → soundFilter next areas f ≡ true → fitsPlace next f ≡ true
+sound-fits next areas f long e = go (isOpen f) e
+  where
+    go : (o : Bool) → cond o (ltb (f .number) next && isUsed (getD areas (f .area) freeArea)) (eqb (f .area) 0) ≡ true
+        → cond o (ltb (f .number) next && ltb (f .area) 8) (eqb (f .area) 0) ≡ true
+    go false e = e
+    go true e =
+        let parts = both-true (ltb (f .number) next) (isUsed (getD areas (f .area) freeArea)) e in
+        true-both (ltb (f .number) next) (ltb (f .area) 8) (parts .0) (inside (decLt (f .area) 8) (parts .1))
+      where
+        inside : Dec (f .area < 8) → isUsed (getD areas (f .area) freeArea) ≡ true → ltb (f .area) 8 ≡ true
+        inside (yes h) u = lt-ltb (f .area) 8 h
+        inside (no n) u =
+            absurd (false≢true (ap isUsed (sym (List·getD-eq-default areas freeArea (omega arith))) ∙ u))
+
+-- a counted area has as many users as filters stand on it
+pub counted-at : (filters : List Filter) (i : ℕ) (areas : List Area) → counted filters i areas ≡ true → (k : ℕ) → k < length areas
+    → getD areas k freeArea .users ≡ count (standsOn (i + k)) filters
+counted-at filters i [] e k h = absurd (not-suc-le-zero h)
+counted-at filters i (a ∷ areas) e zero h =
+    eqb-true _ _ (both-true (eqb (a .users) (count (standsOn i) filters)) (counted filters (suc i) areas) e .0)
+    ∙ ap (λ (j : ℕ). count (standsOn j) filters) (sym (add-zero i))
+counted-at filters i (a ∷ areas) e (suc k) h =
+    counted-at filters (suc i) areas (both-true (eqb (a .users) (count (standsOn i) filters)) (counted filters (suc i) areas) e .1) k (le-of-suc-le-suc h)
+    ∙ ap (λ (j : ℕ). count (standsOn j) filters) (suc-add i k ∙ sym (add-suc i k))
+
+-- whoever stands on an area is counted there
+pub stands-counted : (filters : List Filter) (j a : ℕ) → j < length filters → standsOn a (getD filters j freeFilter) ≡ true → 0 < count (standsOn a) filters
+stands-counted filters j a h e =
+    let one = total-at (λ f. cond (standsOn a f) 1 0) filters j freeFilter h in
+    let is : _≡_ {A = ℕ} (cond (standsOn a (getD filters j freeFilter)) 1 0) 1 = ap (λ (b : Bool). cond b 1 0) e in
+    omega arith
+
+-- so an open filter within the eight areas stands on a used one
+fits-sound : (next : ℕ) (areas : List Area) (filters : List Filter) (j : ℕ) → length areas ≡ 8 → j < length filters → counted filters 0 areas ≡ true
+    → fitsPlace next (getD filters j freeFilter) ≡ true → soundFilter next areas (getD filters j freeFilter) ≡ true
+fits-sound next areas filters j long h e q = go (isOpen (getD filters j freeFilter)) refl q
+  where
+    go : (o : Bool) → isOpen (getD filters j freeFilter) ≡ o
+        → cond o (ltb (getD filters j freeFilter .number) next && ltb (getD filters j freeFilter .area) 8) (eqb (getD filters j freeFilter .area) 0) ≡ true
+        → cond o (ltb (getD filters j freeFilter .number) next && isUsed (getD areas (getD filters j freeFilter .area) freeArea)) (eqb (getD filters j freeFilter .area) 0) ≡ true
+    go false o q = q
+    go true o q =
+        let f = getD filters j freeFilter in
+        let parts = both-true (ltb (f .number) next) (ltb (f .area) 8) q in
+        let inside : f .area < length areas = rw long (ltb-true (f .area) 8 (parts .1)) in
+        let users = counted-at filters 0 areas e (f .area) inside ∙ ap (λ (k : ℕ). count (standsOn k) filters) (zero-add (f .area)) in
+        let some = stands-counted filters j (f .area) h (true-both (isOpen f) _ o (eq-eqb (f .area) (f .area) refl)) in
+        true-both (ltb (f .number) next) _ (parts .0) (ap not (ne-eqb (getD areas (f .area) freeArea .users) 0 (omega arith)))
+
+same-truth : (a b : Bool) → (a ≡ true → b ≡ true) → (b ≡ true → a ≡ true) → a ≡ b
+same-truth true b f g = sym (f refl)
+same-truth false true f g = g refl
+same-truth false false f g = refl
+
+-- the places are sound where they are in range and the users are counted
+places-sound : (next : ℕ) (areas : List Area) (filters : List Filter) → length areas ≡ 8 → counted filters 0 areas ≡ true
+    → all (soundFilter next areas) filters ≡ all (fitsPlace next) filters
+places-sound next areas filters long e =
+    same-truth _ _
+    (λ s. all-of (fitsPlace next) filters freeFilter (λ j h. sound-fits next areas (getD filters j freeFilter) long (all-at (soundFilter next areas) filters freeFilter s j h)))
+    (λ s. all-of (soundFilter next areas) filters freeFilter (λ j h. fits-sound next areas filters j long h e (all-at (fitsPlace next) filters freeFilter s j h)))
+
+-- what is out of range is not sound, counted or not
+places-unsound : (next : ℕ) (areas : List Area) (filters : List Filter) → length areas ≡ 8 → all (fitsPlace next) filters ≡ false
+    → all (soundFilter next areas) filters ≡ false
+places-unsound next areas filters long e = go (all (soundFilter next areas) filters) refl
+  where
+    go : (b : Bool) → all (soundFilter next areas) filters ≡ b → b ≡ false
+    go false q = refl
+    go true q =
+        sym (sym e ∙ all-of (fitsPlace next) filters freeFilter (λ j h. sound-fits next areas (getD filters j freeFilter) long (all-at (soundFilter next areas) filters freeFilter q j h)))
+
+-- an open filter in range stands within the eight areas
+pub open-inside : (next : ℕ) (f : Filter) → fitsPlace next f ≡ true → isOpen f ≡ true → f .area < 8
+open-inside next f e o =
+    ltb-true (f .area) 8
+    (both-true (ltb (f .number) next) (ltb (f .area) 8) (sym (ap (λ (b : Bool). cond b (ltb (f .number) next && ltb (f .area) 8) (eqb (f .area) 0)) o) ∙ e) .1)
+
+-- the three clauses together
+abbrev pub clauses : ℕ → List Area → List Filter → Bool
+clauses next areas filters = all (soundFilter next areas) filters && apart sameNumber filters && counted filters 0 areas
+
+module _ (next : ℕ) (areas : List Area) (filters : List Filter) (long : length areas ≡ 8) where
+  pub clauses-ranged : all (fitsPlace next) filters ≡ false → clauses next areas filters ≡ false
+  clauses-ranged e = rw (places-unsound next areas filters long e)
+
+  pub clauses-counted : counted filters 0 areas ≡ false → clauses next areas filters ≡ false
+  clauses-counted e = rw e (go (all (soundFilter next areas) filters && apart sameNumber filters))
+    where
+      go : (b : Bool) → (b && false) ≡ false
+      go true = refl
+      go false = refl
+
+  pub clauses-apart : all (fitsPlace next) filters ≡ true → counted filters 0 areas ≡ true → clauses next areas filters ≡ apart sameNumber filters
+  clauses-apart r e = rw (places-sound next areas filters long e ∙ r, e) (go (apart sameNumber filters))
+    where
+      go : (b : Bool) → (b && true) ≡ b
+      go true = refl
+      go false = refl
+
+-- ---- the pass over the places
+-- what is known once i places are passed
+pub record Passed (next : ℕ) (filters : List Filter) (counts met : List ℕ) (alike : Bool) (i : ℕ) : Type 0 where
+  pub bound : i ≤ 32
+  pub ranged : all (fitsPlace next) filters ≡ all (fitsPlace next) (drop i filters)
+  pub eight : length counts ≡ 8
+  pub classes : length met ≡ 64
+  pub tallied : (k : ℕ) → k < 8 → getD counts k 0 + count (standsOn k) (drop i filters) ≡ count (standsOn k) filters
+  pub unlike : alike ≡ false → Met filters met i
+
+pub passed-none : (next : ℕ) (filters : List Filter) → Passed next filters (replicate 8 0) (replicate 64 0) false 0
+passed-none next filters =
+    record {
+      bound = zero-le;
+      ranged = refl;
+      eight = refl;
+      classes = refl;
+      tallied = λ k h. rw (getD-replicate {A = ℕ} 8 k 0 0 h) (zero-add (count (standsOn k) filters));
+      unlike = λ e. met-none filters (replicate 64 0);
+    }
+
+module _ (next : ℕ) (filters : List Filter) (counts met : List ℕ) (alike : Bool) (i : ℕ) (long : length filters ≡ 32) (p : Passed next filters counts met alike i) where
+  pub passed-turn : i < 32 → fitsPlace next (getD filters i freeFilter) ≡ true
+      → Passed next filters (countedIn counts (getD filters i freeFilter)) (metIn met (getD filters i freeFilter)) (alike || isMet met (getD filters i freeFilter)) (i + 1)
+  passed-turn h fits =
+      record {
+        bound = omega arith;
+        ranged = all-goes (fitsPlace next) filters i (all (fitsPlace next) filters) (p .ranged) freeFilter here fits;
+        eight = length-counted counts (getD filters i freeFilter) ∙ p .eight;
+        classes = length-met met (getD filters i freeFilter) ∙ p .classes;
+        tallied = λ k b. rw (add-one i) (counted-turn filters counts i k here (rw (p .eight) b) ∙ p .tallied k b);
+        unlike = λ e.
+            met-turn filters met i (p .classes) (neither alike (isMet met (getD filters i freeFilter)) e .1)
+            (p .unlike (neither alike (isMet met (getD filters i freeFilter)) e .0));
+      }
+    where
+      here : i < length filters
+      here = rw long h
+
+  -- there is room for one more at every area
+  pub counts-small : (k : ℕ) → k < 8 → getD counts k 0 < 255
+  counts-small k h =
+      let most = count-le (standsOn k) filters in
+      let e = p .tallied k h in
+      omega arith
+
+  -- once all are passed
+  module _ (end : 32 ≤ i) where
+    pub passed-ranged : all (fitsPlace next) filters ≡ true
+    passed-ranged = all-ends (fitsPlace next) filters i (all (fitsPlace next) filters) (p .ranged) (rw long end)
+
+    pub passed-counts : (areas : List Area) → length areas ≡ 8 → agree counts areas ≡ counted filters 0 areas
+    passed-counts areas eight = agree-counted filters 0 counts areas (p .eight ∙ sym eight) right
+      where
+        done : drop i filters ≡ []
+        done = let past : length filters ≤ i = rw long end in drop-of-length-le filters past
+
+        right : (k : ℕ) → k < length areas → getD counts k 0 ≡ count (standsOn (0 + k)) filters
+        right k h =
+            let e = p .tallied k (rw eight at h) in
+            let none : count (standsOn k) (drop i filters) ≡ 0 = ap (count (standsOn k)) done in
+            rw (zero-add k) (omega arith)
+
+    pub passed-apart : alike ≡ false → apart sameNumber filters ≡ true
+    passed-apart e = apart-of sameNumber filters freeFilter (λ j k h b. p .unlike e .differ j k h (omega arith))
+
+-- users that are right at every area are counted
+counted-of : (filters : List Filter) (i : ℕ) (areas : List Area)
+    → ((k : ℕ) → k < length areas → getD areas k freeArea .users ≡ count (standsOn (i + k)) filters) → counted filters i areas ≡ true
+counted-of filters i [] right = refl
+counted-of filters i (a ∷ areas) right =
+    true-both (eqb (a .users) (count (standsOn i) filters)) (counted filters (suc i) areas)
+    (eq-eqb _ _ (right 0 (suc-le-suc zero-le) ∙ ap (λ (k : ℕ). count (standsOn k) filters) (add-zero i)))
+    (counted-of filters (suc i) areas (λ k h. right (suc k) (suc-le-suc h) ∙ ap (λ (j : ℕ). count (standsOn j) filters) (add-suc i k ∙ sym (suc-add i k))))
+
+pub counted-all : (filters : List Filter) (areas : List Area)
+    → ((k : ℕ) → k < length areas → getD areas k freeArea .users ≡ count (standsOn k) filters) → counted filters 0 areas ≡ true
+counted-all filters areas right = counted-of filters 0 areas (λ k h. right k h ∙ ap (λ (j : ℕ). count (standsOn j) filters) (sym (zero-add k)))

@@ -1,0 +1,16 @@
+-- Each promise is an equation with a definition, so its outcome is one.
+-- Assumes nothing.
+use Rattle.ground.proofs.Outcome.{determined}
+use Rattle.state.specs.State.{fresh, areaOf, freeAreaOf, freePlaceOf, placeOf, placesOn}
+use Rattle.state.specs.Claims.{Claims}
+
+pub claims : Claims
+claims =
+    record {
+      makesFresh = determined fresh;
+      findsArea = λ areas pid. determined (areaOf pid areas);
+      findsFreeArea = λ areas. determined (freeAreaOf areas);
+      findsFreePlace = λ filters. determined (freePlaceOf filters);
+      findsPlace = λ filters number. determined (placeOf number filters);
+      tellsPlaces = λ filters area. determined (placesOn area filters);
+    }

@@ -1,0 +1,3 @@
+pub mod Found
+pub mod Places
+pub mod Claims

@@ -1,0 +1,149 @@
+// What the driver's state holds, a fresh one, the lowest area or place that passes a test, or the number of them where none does, and the set of places on an area.
+ghost use mathlib.Core.Path.{_≡_};
+ghost use mathlib.Core.Bool.{cond};
+ghost use Rattle.state.specs.State.{standsOn};
+ghost use Rattle.state.specs.Promises.{MakesFresh, FindsArea, FindsFreeArea, FindsFreePlace, FindsPlace, TellsPlaces};
+use gather::Marks;
+use pid::Pid;
+
+// "Areas: 8".
+pub const AREAS: usize = 8;
+
+// "Filter places: 32".
+pub const PLACES: usize = 32;
+
+// "the store is exactly 32,768 bytes".
+pub const STORE_BYTES: usize = 32768;
+
+// "Filter numbers: 1 to 65,535".
+pub const LAST_NUMBER: u32 = 65535;
+
+// A filter stands on a PID up to this one; the next is that of null packets.
+pub const LAST_FILTER_PID: u16 = 0x1FFE;
+
+// An area, used where it has users: its PID, how many filters stand on it, and what the rule of gathering remembers beside the held bytes.
+pub struct Area {
+    pub pid: Pid,
+    pub users: u8,
+    pub marks: Marks,
+}
+
+// A filter place, open where it has a number: the number, and the area that the filter stands on.
+pub struct Filter {
+    pub number: u16,
+    pub area: u8,
+}
+
+// The driver's state: 8 areas, 32 filter places, and the next number to give.
+pub struct State {
+    pub areas: [Area; AREAS],
+    pub filters: [Filter; PLACES],
+    pub next: u32,
+}
+
+// A state with nothing open: the next number is 1.
+pub fn fresh() -> State
+    ensures { λ r. ⌜ MakesFresh r ⌝ }
+{
+    let marks = Marks {
+        held: 0,
+        seen: false,
+        counter: 0,
+    };
+    let area = Area {
+        pid: Pid(0),
+        users: 0,
+        marks,
+    };
+    let filter = Filter { number: 0, area: 0 };
+    State {
+        areas: [area; AREAS],
+        filters: [filter; PLACES],
+        next: 1,
+    }
+}
+
+// The area of a PID.
+pub fn area_of(areas: [Area; AREAS], pid: Pid) -> usize
+    ensures { λ r. ⌜ FindsArea areas (pid .0) r ⌝ }
+{
+    let mut i: usize = 0;
+    while i < AREAS {
+        let area = areas[i];
+        let own = area.pid;
+        if (area.users != 0) & (own.0 == pid.0) {
+            return i;
+        }
+        i += 1;
+    }
+    AREAS
+}
+
+// The lowest free area.
+pub fn free_area(areas: [Area; AREAS]) -> usize
+    ensures { λ r. ⌜ FindsFreeArea areas r ⌝ }
+{
+    let mut i: usize = 0;
+    while i < AREAS {
+        let area = areas[i];
+        if area.users == 0 {
+            return i;
+        }
+        i += 1;
+    }
+    AREAS
+}
+
+// The lowest free place.
+pub fn free_place(filters: [Filter; PLACES]) -> usize
+    ensures { λ r. ⌜ FindsFreePlace filters r ⌝ }
+{
+    let mut i: usize = 0;
+    while i < PLACES {
+        let filter = filters[i];
+        if filter.number == 0 {
+            return i;
+        }
+        i += 1;
+    }
+    PLACES
+}
+
+// The place of an open filter by its number.
+pub fn place_of(filters: [Filter; PLACES], number: u16) -> usize
+    ensures { λ r. ⌜ FindsPlace filters number r ⌝ }
+{
+    let mut i: usize = 0;
+    while i < PLACES {
+        let filter = filters[i];
+        if (filter.number != 0) & (filter.number == number) {
+            return i;
+        }
+        i += 1;
+    }
+    PLACES
+}
+
+// Whether the filter at a place is open on this area, as a number.
+fn stands_on(filter: Filter, area: u8) -> u32
+    ensures { λ r. ⌜ r ≡ cond (standsOn area filter) 1 0 ⌝ }
+{
+    if (filter.number != 0) & (filter.area == area) {
+        return 1;
+    }
+    0
+}
+
+// The set of places open on this area, the first place the least significant bit.
+pub fn places_on(filters: [Filter; PLACES], area: u8) -> u32
+    ensures { λ r. ⌜ TellsPlaces filters area r ⌝ }
+{
+    let mut places: u32 = 0;
+    let mut i: usize = PLACES;
+    while 0 < i {
+        i -= 1;
+        let filter = filters[i];
+        places = places * 2 + stands_on(filter, area);
+    }
+    places
+}
