@@ -5,9 +5,13 @@ use Rattle.octets.proofs.Claims as bytes
 use Rattle.pid.proofs.Claims as pids
 use Rattle.section.proofs.Claims as lengths
 use Rattle.clock.proofs.Claims as times
+use Rattle.crc_table.proofs.Claims as entries
 use Rattle.crc.proofs.Claims as checks
 use Rattle.packet.proofs.Claims as packets
-use Rattle.tables.proofs.Claims as sections
+use Rattle.psi.proofs.Claims as sections
+use Rattle.pat.proofs.Claims as programs
+use Rattle.loops.proofs.Claims as bodies
+use Rattle.pmt.proofs.Claims as streams
 use Rattle.pes.proofs.Claims as headers
 use Rattle.gather.proofs.Claims as gathering
 use Rattle.state.proofs.Claims as states
@@ -30,9 +34,13 @@ every-claim =
       pid = pids.claims;
       section = lengths.claims;
       clock = times.claims;
+      crcTable = entries.claims;
       crc = checks.claims;
       packet = packets.claims;
-      tables = sections.claims;
+      psi = sections.claims;
+      pat = programs.claims;
+      loops = bodies.claims;
+      pmt = streams.claims;
       pes = headers.claims;
       gather = gathering.claims;
       state = states.claims;

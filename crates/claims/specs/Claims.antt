@@ -4,9 +4,13 @@ use Rattle.octets.specs.Claims as bytes
 use Rattle.pid.specs.Claims as pids
 use Rattle.section.specs.Claims as lengths
 use Rattle.clock.specs.Claims as times
+use Rattle.crc_table.specs.Claims as entries
 use Rattle.crc.specs.Claims as checks
 use Rattle.packet.specs.Claims as packets
-use Rattle.tables.specs.Claims as sections
+use Rattle.psi.specs.Claims as sections
+use Rattle.pat.specs.Claims as programs
+use Rattle.loops.specs.Claims as bodies
+use Rattle.pmt.specs.Claims as streams
 use Rattle.pes.specs.Claims as headers
 use Rattle.gather.specs.Claims as gathering
 use Rattle.state.specs.Claims as states
@@ -30,12 +34,18 @@ pub record EveryClaim : Type 0 where
   pub section : lengths.Claims
   -- stamps and clock references: read, written, read back, and their differences
   pub clock : times.Claims
-  -- CRC_32
+  -- CRC_32, and its table
+  pub crcTable : entries.Claims
   pub crc : checks.Claims
   -- packets and their payload
   pub packet : packets.Claims
-  -- PAT and PMT
-  pub tables : sections.Claims
+  -- what a PAT and a PMT share
+  pub psi : sections.Claims
+  -- PAT
+  pub pat : programs.Claims
+  -- PMT: its loops and the walk over them, and what is answered
+  pub loops : bodies.Claims
+  pub pmt : streams.Claims
   -- PES headers
   pub pes : headers.Claims
   -- from payload to sections

@@ -1,4 +1,4 @@
--- The figure's delay elements and the register are one: a clock of the figure is the input added to the top bit and a turn.
+-- The figure's delay elements and the register are one: a tick of the figure is the input added to the top bit and a shift.
 -- Assumes nothing.
 use mathlib.Core.Path.{_≡_, refl, sym, _∙_, ap, ap₂}
 use mathlib.Core.Bool.{Bool, true, false, cond, not}
@@ -14,9 +14,10 @@ use lib.Bits.{bitXor, xor-block, xor-zero-r}
 use Rattle.ground.specs.Walk.{all}
 use Rattle.crc.specs.Figure.{_⊕_, adderBehind, handOn, tick, msbFirst, bitsIn, bytesIn, decoder, right, registerOf, residueOf}
 use Rattle.crc.specs.Claims.{RightResidue}
-use Rattle.crc.specs.Steps.Register.{turnOf, enterBits, enterBytes}
-use Rattle.crc.proofs.Xor.{xor-bit}
-use Rattle.crc.proofs.Turn.{turn-small}
+use Rattle.crc_table.specs.Table.{shiftOf}
+use Rattle.crc.specs.Steps.{enterBits, enterBytes}
+use Rattle.ground.proofs.Xor.{xor-bit}
+use Rattle.crc.proofs.Shift.{shift-small}
 
 bit-lt : (z : Bool) → cond z 1 0 < 2
 bit-lt true = lit< tt
@@ -82,16 +83,16 @@ entered true false = refl
 entered false true = refl
 entered false false = refl
 
--- a turn of a register whose top bit is the feedback
-turn-top : (f : Bool) (zs : List Bool) → length zs ≡ 31
-    → registerOf (f ∷ handOn f 0 zs) ≡ turnOf (cond f 1 0 * 2 ^ 31 + registerOf zs)
-unfolding turnOf
-turn-top false zs h =
+-- a shift of a register whose top bit is the feedback
+shift-top : (f : Bool) (zs : List Bool) → length zs ≡ 31
+    → registerOf (f ∷ handOn f 0 zs) ≡ shiftOf (cond f 1 0 * 2 ^ 31 + registerOf zs)
+unfolding shiftOf
+shift-top false zs h =
     let l : registerOf zs < 2 ^ 31 = rw h at (register-lt zs) in
     ap (λ (x : List Bool). registerOf x * 2 + 0) (handed-zero zs 0)
     ∙ add-zero (registerOf zs * 2)
-    ∙ sym (ap turnOf (zero-add (registerOf zs)) ∙ turn-small (registerOf zs) l)
-turn-top true zs h =
+    ∙ sym (ap shiftOf (zero-add (registerOf zs)) ∙ shift-small (registerOf zs) l)
+shift-top true zs h =
     let l : registerOf zs < 2 ^ 31 = rw h at (register-lt zs) in
     let low : (2 ^ 31 + registerOf zs) * 2 % 2 ^ 32 ≡ registerOf zs * 2 + 0 = omega arith in
     let top : (2 ^ 31 + registerOf zs) / 2 ^ 31 % 2 ≡ 1 = omega arith in
@@ -99,15 +100,15 @@ turn-top true zs h =
     ∙ sym (xor-bit (registerOf zs) (taps 0 31) 0 1 (lit< tt) (lit< tt))
     ∙ sym (ap₂ (λ (x y : ℕ). bitXor x (y * 0x04C11DB7)) low top)
 
-tick-turn : (z : List Bool) (b : Bool) → length z ≡ 32 → registerOf (tick z b) ≡ turnOf (bitXor (registerOf z) (cond b 1 0 * 2 ^ 31))
+tick-shift : (z : List Bool) (b : Bool) → length z ≡ 32 → registerOf (tick z b) ≡ shiftOf (bitXor (registerOf z) (cond b 1 0 * 2 ^ 31))
 unfolding tick
-tick-turn z b h =
+tick-shift z b h =
     let t = getD z 31 false in
     let low = take 31 z in
     let len : length low ≡ 31 = length-take-le 31 z (omega arith) in
     let l : registerOf low < 2 ^ 31 = rw len at (register-lt low) in
-    turn-top (b ⊕ t) low len
-    ∙ ap turnOf (sym (
+    shift-top (b ⊕ t) low len
+    ∙ ap shiftOf (sym (
     ap₂ bitXor (register-top 31 z h) (sym (add-zero (cond b 1 0 * 2 ^ 31)))
     ∙ xor-block 31 (cond t 1 0) (cond b 1 0) (registerOf low) 0 l (lit< tt)
     ∙ ap₂ (λ (x y : ℕ). x * 2 ^ 31 + y) (entered b t) (xor-zero-r (registerOf low))))
@@ -117,7 +118,7 @@ bits-enter : (bs z : List Bool) → length z ≡ 32
 bits-enter [] z h = (refl, h)
 bits-enter (b ∷ bs) z h =
     let rest = bits-enter bs (tick z b) (length-tick z b h) in
-    (rest .0 ∙ ap (λ (v : ℕ). enterBits v bs) (tick-turn z b h), rest .1)
+    (rest .0 ∙ ap (λ (v : ℕ). enterBits v bs) (tick-shift z b h), rest .1)
 
 bytes-enter : (bytes : List ℕ) (z : List Bool) → length z ≡ 32 → registerOf (bytesIn z bytes) ≡ enterBytes (registerOf z) bytes
 bytes-enter [] z h = refl

@@ -1,6 +1,5 @@
 pub mod Examples
-pub mod Xor
-pub mod Turn
+pub mod Shift
 pub mod Bridge
 pub mod Rule
 pub mod Claims

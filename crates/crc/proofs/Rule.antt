@@ -1,7 +1,7 @@
--- The table's rule, by one computed test over its entries, and what a byte does to the register, by linearity.
+-- What a byte does to the register, by linearity: one entry of the table and one shift.
 -- Assumes nothing.
 use mathlib.Core.Path.{_≡_, refl, sym, _∙_, ap, ap₂}
-use mathlib.Core.Bool.{Bool, true, _&&_}
+use mathlib.Core.Bool.{Bool, true}
 use mathlib.Core.List.{List}
 use Prim.Native.Nat.{ℕ, suc, _+_, _*_, _/_, _%_, _^_, _<_}
 use native.Mathlib.Nat.{mod-lt}
@@ -9,59 +9,48 @@ use native.Mathlib.Numerals.{add-one}
 use native.Mathlib.Omega.{arith}
 use borrow.Author.Tests.{eqb-true}
 use lib.Dec.{eqb, lit<}
-use lib.ListN.{length, getD, drop}
+use lib.ListN.{length, getD, drop, replicate}
 use lib.Seq.{drop-cons}
 use lib.Pow.{split}
-use lib.Bits.{bitXor, xor-shifted, xor-comm, xor-lt, xor-mod, xor-shr}
-use Rattle.ground.proofs.Test.{both-true}
+use lib.Bits.{bitXor, xor-shifted, xor-comm, xor-mod, xor-shr}
 use Rattle.crc.specs.Figure.{msbFirst}
-use Rattle.crc.specs.Steps.Register.{turnOf, turns, enterBits, enterBytes}
-use Rattle.crc.specs.Steps.Table.{table, entryOf}
+use Rattle.crc_table.specs.Table.{shiftOf, shifts, entryOf}
+use Rattle.crc.specs.Steps.{enterBits, enterBytes}
 use Rattle.ground.proofs.Entries.{everyEntry, entry-at}
-use Rattle.crc.proofs.Xor.{xor-assoc, xor-shl}
-use Rattle.crc.proofs.Turn.{turns-xor, turns-small, enter-xor}
+use Rattle.ground.proofs.Xor.{xor-assoc, xor-shl}
+use Rattle.crc.proofs.Shift.{shifts-xor, shifts-small, enter-xor}
 
--- an entry is eight turns of the byte that its key stands for; and eight turns of a byte at the top are what its bits do one by one
-abbrev rule : ℕ → ℕ → Bool
-rule key entry =
-    eqb entry (bitXor (turns 8 (bitXor key 127 * 2 ^ 24)) 255) && eqb (enterBits 0 (msbFirst 8 key)) (turns 8 (key * 2 ^ 24))
+-- what the bits of a byte do one by one is eight shifts of the byte at the top: one computed test over all bytes
+abbrev bitsShift : ℕ → ℕ → Bool
+bitsShift b any = eqb (enterBits 0 (msbFirst 8 b)) (shifts 8 (b * 2 ^ 24))
 
-holds : everyEntry rule 0 table ≡ true
-unfolding turnOf
+holds : everyEntry bitsShift 0 (replicate 256 0) ≡ true
+unfolding shiftOf
 holds = refl
 
-rule-at : (key : ℕ) → key < 256
-    → (entryOf key ≡ bitXor (turns 8 (bitXor key 127 * 2 ^ 24)) 255) × (enterBits 0 (msbFirst 8 key) ≡ turns 8 (key * 2 ^ 24))
-rule-at key h =
-    let t = both-true (eqb (entryOf key) (bitXor (turns 8 (bitXor key 127 * 2 ^ 24)) 255)) (eqb (enterBits 0 (msbFirst 8 key)) (turns 8 (key * 2 ^ 24)))
-    (entry-at rule table 0 holds key h) in (
-      eqb-true (entryOf key) (bitXor (turns 8 (bitXor key 127 * 2 ^ 24)) 255) (t .0),
-      eqb-true (enterBits 0 (msbFirst 8 key)) (turns 8 (key * 2 ^ 24)) (t .1),
-    )
+bits-shift : (b : ℕ) → b < 256 → enterBits 0 (msbFirst 8 b) ≡ shifts 8 (b * 2 ^ 24)
+bits-shift b h = eqb-true (enterBits 0 (msbFirst 8 b)) (shifts 8 (b * 2 ^ 24)) (entry-at bitsShift (replicate 256 0) 0 holds b h)
 
-pub entry-turns : (key : ℕ) → key < 256 → entryOf key ≡ bitXor (turns 8 (bitXor key 127 * 2 ^ 24)) 255
-entry-turns key h = rule-at key h .0
-
--- eight turns: the top byte by itself, and the others moved up
-turns-byte : (v : ℕ) → turns 8 v ≡ bitXor (turns 8 (v / 2 ^ 24 * 2 ^ 24)) (v * 2 ^ 8 % 2 ^ 32)
-turns-byte v =
+-- eight shifts: the top byte by itself, and the others moved up
+shifts-byte : (v : ℕ) → shifts 8 v ≡ bitXor (shifts 8 (v / 2 ^ 24 * 2 ^ 24)) (v * 2 ^ 8 % 2 ^ 32)
+shifts-byte v =
     let hi = v / 2 ^ 24 in
     let lo = v % 2 ^ 24 in
     let l : lo < 2 ^ 24 = mod-lt v (lit< tt) in
-    ap (turns 8) (sym (xor-shifted hi 24 lo l ∙ split v 24))
-    ∙ turns-xor 8 (hi * 2 ^ 24) lo
-    ∙ ap (λ (x : ℕ). bitXor (turns 8 (hi * 2 ^ 24)) x) (turns-small 8 lo (omega arith) ∙ omega arith)
+    ap (shifts 8) (sym (xor-shifted hi 24 lo l ∙ split v 24))
+    ∙ shifts-xor 8 (hi * 2 ^ 24) lo
+    ∙ ap (λ (x : ℕ). bitXor (shifts 8 (hi * 2 ^ 24)) x) (shifts-small 8 lo (omega arith) ∙ omega arith)
 
--- a byte goes in: it is added to the top byte, and the register turns eight times
-byte-in : (v b : ℕ) → b < 256 → enterBits v (msbFirst 8 b) ≡ bitXor (v * 2 ^ 8 % 2 ^ 32) (turns 8 (bitXor (v / 2 ^ 24) b * 2 ^ 24))
+-- a byte goes in: it is added to the top byte, and the register is shifted eight times
+byte-in : (v b : ℕ) → b < 256 → enterBits v (msbFirst 8 b) ≡ bitXor (v * 2 ^ 8 % 2 ^ 32) (shifts 8 (bitXor (v / 2 ^ 24) b * 2 ^ 24))
 byte-in v b h =
     let hi = v / 2 ^ 24 in
     enter-xor (msbFirst 8 b) v
-    ∙ ap₂ bitXor (rule-at b h .1) (turns-byte v)
-    ∙ sym (xor-assoc (turns 8 (b * 2 ^ 24)) (turns 8 (hi * 2 ^ 24)) (v * 2 ^ 8 % 2 ^ 32))
-    ∙ xor-comm (bitXor (turns 8 (b * 2 ^ 24)) (turns 8 (hi * 2 ^ 24))) (v * 2 ^ 8 % 2 ^ 32)
+    ∙ ap₂ bitXor (bits-shift b h) (shifts-byte v)
+    ∙ sym (xor-assoc (shifts 8 (b * 2 ^ 24)) (shifts 8 (hi * 2 ^ 24)) (v * 2 ^ 8 % 2 ^ 32))
+    ∙ xor-comm (bitXor (shifts 8 (b * 2 ^ 24)) (shifts 8 (hi * 2 ^ 24))) (v * 2 ^ 8 % 2 ^ 32)
     ∙ ap (λ (x : ℕ). bitXor (v * 2 ^ 8 % 2 ^ 32) x)
-    (sym (turns-xor 8 (b * 2 ^ 24) (hi * 2 ^ 24)) ∙ ap (turns 8) (xor-shl 24 b hi ∙ ap (λ (x : ℕ). x * 2 ^ 24) (xor-comm b hi)))
+    (sym (shifts-xor 8 (b * 2 ^ 24) (hi * 2 ^ 24)) ∙ ap (shifts 8) (xor-shl 24 b hi ∙ ap (λ (x : ℕ). x * 2 ^ 24) (xor-comm b hi)))
 
 -- a register with every bit turned over
 abbrev pub turnedOver : ℕ → ℕ
@@ -75,17 +64,16 @@ turned-in q b hq hb =
     let low = q * 2 ^ 8 % 2 ^ 32 in
     let top : hi < 2 ^ 8 = omega arith in
     let key = bitXor (bitXor hi b) 128 in
-    let made = turns 8 (bitXor key 127 * 2 ^ 24) in
+    let made = shifts 8 (bitXor key 127 * 2 ^ 24) in
     byte-in (turnedOver q) b hb
-    ∙ ap₂ (λ (x y : ℕ). bitXor x (turns 8 (bitXor y b * 2 ^ 24)))
+    ∙ ap₂ (λ (x y : ℕ). bitXor x (shifts 8 (bitXor y b * 2 ^ 24)))
     (ap (λ (x : ℕ). x % 2 ^ 32) (sym (xor-shl 8 q 0xFFFFFFFF)) ∙ xor-mod (q * 2 ^ 8) 0xFFFFFFFF00 32)
     (xor-shr q 0xFFFFFFFF 24)
-    ∙ ap (λ (x : ℕ). bitXor (bitXor low 0xFFFFFF00) (turns 8 (x * 2 ^ 24)))
+    ∙ ap (λ (x : ℕ). bitXor (bitXor low 0xFFFFFF00) (shifts 8 (x * 2 ^ 24)))
     (xor-assoc hi 255 b ∙ ap (λ (x : ℕ). bitXor hi x) (xor-comm 255 b) ∙ sym (xor-assoc hi b 255) ∙ sym (xor-assoc (bitXor hi b) 128 127))
     ∙ xor-assoc low 0xFFFFFF00 made
     ∙ ap (λ (x : ℕ). bitXor low x) (xor-comm 0xFFFFFF00 made ∙ sym (xor-assoc made 255 0xFFFFFFFF))
     ∙ sym (xor-assoc low (bitXor made 255) 0xFFFFFFFF)
-    ∙ ap (λ (x : ℕ). turnedOver (bitXor low x)) (sym (entry-turns key (xor-lt 8 (bitXor hi b) 128 (xor-lt 8 hi b top hb) (lit< tt))))
 
 -- one turn of the loop: the byte at i goes in
 pub loop-turn : (bytes : List ℕ) (i q : ℕ) → i < length bytes → q < 2 ^ 32 → getD bytes i 0 < 256

@@ -2,12 +2,12 @@
 use crate::line::Line;
 use crate::line::sixteen_bits;
 use crate::outcome;
-use tables::pat::PatEntry;
-use tables::pat::PatHeader;
-use tables::pmt::PmtDescriptor;
-use tables::pmt::PmtEntry;
-use tables::pmt::PmtHeader;
-use tables::shared::Head;
+use tables::Head;
+use tables::PatEntry;
+use tables::PatHeader;
+use tables::PmtDescriptor;
+use tables::PmtEntry;
+use tables::PmtHeader;
 
 // The outcome of a line; one that no other part knows is bad.
 pub(crate) fn answer(line: Line, bytes: &[u8], text: &mut [u8], at: usize) -> usize {

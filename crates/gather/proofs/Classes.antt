@@ -7,9 +7,9 @@ use mathlib.Core.Logic.{_⊎_, inl, inr, ⊎-elim}
 use Prim.Native.Nat.{ℕ, _+_, _≤_, _<_}
 use native.Mathlib.Omega.{arith}
 use lib.Dec.{ltb, leb, eqb}
-use lib.ListN.{length, getD, take, length-append, List·getD-append}
-use lib.Seq.{getD-take, length-take-le}
+use lib.ListN.{length, getD, take}
 use borrow.Author.Tests.{lt-ltb, le-ltb, le-leb, lt-leb, eq-eqb, ne-eqb, ltb-true, ltb-false, leb-true, eqb-true, eqb-false}
+use Rattle.ground.proofs.Part.{front-at, front-size}
 use Rattle.gather.specs.declared.kind.Kind.{Kind}
 use Rattle.gather.specs.declared.kind.Kind.the-variants.{Nothing, Part, Overlong, Whole}
 use Rattle.gather.specs.Steps.{isPart}
@@ -96,16 +96,9 @@ kind-by s f b c len size p q r l z = rw (p, l, q, r, z)
 pub kind-empty : classify [] ≡ Nothing
 kind-empty = kind-is [] Nothing (inl refl)
 
--- bytes that start like others, as far as a header goes
-module _ (s t : List ℕ) (k : ℕ) (k≤ : k ≤ length s) where
-  head-is : (i : ℕ) → i < k → getD (take k s ++ t) i 0 ≡ getD s i 0
-  head-is i h = List·getD-append (take k s) t 0 i (rw (length-take-le k s k≤) h) ∙ getD-take k s i 0 h
-
-  pub length-is : 3 ≤ k → sectionLength (take k s ++ t) ≡ sectionLength s
-  length-is h = rw (head-is 1 (omega arith), head-is 2 (omega arith))
-
-  pub size-is : length (take k s ++ t) ≡ k + length t
-  size-is = length-append (take k s) t ∙ ap (λ (n : ℕ). n + length t) (length-take-le k s k≤)
+-- bytes that start like others, as far as a header goes, say the same length
+pub length-is : (s t : List ℕ) (k : ℕ) → k ≤ length s → 3 ≤ k → sectionLength (take k s ++ t) ≡ sectionLength s
+length-is s t k h three = rw (front-at k s t h 1 0 (omega arith), front-at k s t h 2 0 (omega arith))
 
 -- a whole section, whatever follows it, is that whole section
 pub whole-again : (s : List ℕ) (n : ℕ) (t : List ℕ) → classify s ≡ Whole n → classify (take n s ++ t) ≡ Whole n
@@ -113,19 +106,19 @@ whole-again s n t e =
     let w = said-of s (Whole n) e in
     let n≤ : n ≤ length s = omega arith in
     let len = length-is s t n n≤ (omega arith) in
-    let size = size-is s t n n≤ in
+    let size = front-size n s t n≤ in
     kind-is (take n s ++ t) (Whole n)
-    (rw (len, size) (omega arith), rw (head-is s t n n≤ 0 (omega arith)) (w .1), rw len (w .2), rw len (w .3))
+    (rw (len, size) (omega arith), rw (front-at n s t n≤ 0 0 (omega arith)) (w .1), rw len (w .2), rw len (w .3))
 
 -- the bytes of a section before its end are a part of it
 pub part-of : (s : List ℕ) (n k : ℕ) → classify s ≡ Whole n → 0 < k → k < n → classify (take k s ++ []) ≡ Part
 part-of s n k e p l =
     let w = said-of s (Whole n) e in
     let k≤ : k ≤ length s = omega arith in
-    let size = size-is s [] k k≤ in
+    let size = front-size k s [] k≤ in
     kind-is (take k s ++ []) Part (
       rw size (omega arith),
-      rw (head-is s [] k k≤ 0 p) (w .1),
+      rw (front-at k s [] k≤ 0 0 p) (w .1),
       (λ h. let g = rw size at h in rw (length-is s [] k k≤ (omega arith)) (w .2)),
       (λ h. let g = rw size at h in rw (size, length-is s [] k k≤ (omega arith)) (omega arith)),
     )

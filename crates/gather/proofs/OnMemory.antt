@@ -64,6 +64,16 @@ pub join-append : (a b : List (List ℕ)) → join (a ++ b) ≡ join a ++ join b
 join-append [] b = refl
 join-append (s ∷ ss) b = ap (λ (l : List ℕ). s ++ l) (join-append ss b) ∙ sym (append-assoc s (join ss) (join b))
 
+-- the sizes of two yields together, of which the first is ended
+abbrev pub sizesTogether : Sizes → Sizes → Sizes
+sizesTogether first rest =
+    record {
+      sections = first .sections + rest .sections;
+      bytes = first .bytes + rest .bytes;
+      held = rest .held;
+      «given_up» = first .«given_up» + unfinishedOf (first .held) + rest .«given_up»;
+    }
+
 -- ---- the pointer's two parts, cut at the payload's end
 front-is : (p : List ℕ) → 0 < length p → stretch (min (1 + pointer p) (length p) - 1) p 1 ≡ front p
 front-is [] h = absurd (not-suc-le-zero h)
@@ -131,18 +141,15 @@ module _ (n : ℕ) (payload store : List ℕ) (base : ℕ) (out : List ℕ) (roo
         ∙ put-put out 0 (join (first .sections)) (omega (arith, fits)) (join (rest .sections)) (omega (arith, fits))
         ∙ ap (λ (l : List ℕ). put out 0 l) (sym (join-append (first .sections) (rest .sections))))
 
-    pub started-carried : (x y : Sizes) (u : ℕ) → x ≡ sizesOf (add (stretch n store base) (stretch (from - 1) payload 1)) → y ≡ sizesOf (walk (drop from payload))
-        → u ≡ unfinishedOf (x .held)
-        → carriedAs
-        (record { sections = x .sections + y .sections; bytes = x .bytes + y .bytes; held = y .held; «given_up» = x .«given_up» + u + y .«given_up» })
+    pub started-carried : (x y : Sizes) → x ≡ sizesOf (add (stretch n store base) (stretch (from - 1) payload 1)) → y ≡ sizesOf (walk (drop from payload))
+        → carriedAs (sizesTogether x y)
         (put store base (stretch (y .held) payload (from + y .bytes)))
         (put (put out 0 (take (x .bytes) (stretch n store base ++ drop 1 payload))) (x .bytes) (stretch (y .bytes) payload from))
         ≡ carried (started (stretch n store base) payload) store base out
-    started-carried x y u p q r =
+    started-carried x y p q =
         let x-is : x ≡ sizesOf first = unfold first in p in
         let y-is : y ≡ sizesOf rest = unfold rest in q in
         rw (
-          r,
           x-is,
           y-is,
           shape,

@@ -7,7 +7,7 @@ use native.Mathlib.Nat.{add-zero, add-assoc}
 use native.Mathlib.Omega.{arith}
 use lib.ListN.{length, take, drop, length-append}
 use lib.Seq.{length-take-le, drop-drop}
-use Rattle.ground.proofs.Part.{length-part}
+use Rattle.ground.proofs.Part.{length-part, front-size}
 use Rattle.gather.specs.declared.kind.Kind.{Kind}
 use Rattle.gather.specs.declared.kind.Kind.the-variants.{Nothing, Part, Overlong, Whole}
 use Rattle.gather.specs.declared.measure.Sizes.{Sizes}
@@ -15,7 +15,7 @@ use Rattle.gather.specs.Kind.{classify, join}
 use Rattle.gather.specs.Rule.{Yield, nothing, first, walk, add}
 use Rattle.gather.specs.Memory.{stretch}
 use Rattle.gather.specs.Steps.{sizesOf}
-use Rattle.gather.proofs.Classes.{whole-fits, size-is}
+use Rattle.gather.proofs.Classes.{whole-fits}
 use Rattle.gather.proofs.Walk.{restAfter, walk-kind}
 use Rattle.gather.proofs.Adding.{add-none, add-kind}
 
@@ -70,6 +70,6 @@ pub grows : (l : List ℕ) (at k n b : ℕ) → classify (drop at l) ≡ Whole k
 grows l at k n b e =
     let w = whole-fits (drop at l) k e in
     let y = walk (drop (at + k) l) in
-    let size : length (take k (drop at l) ++ join (y .sections)) ≡ k + length (join (y .sections)) = size-is (drop at l) (join (y .sections)) k (w .within) in
+    let size : length (take k (drop at l) ++ join (y .sections)) ≡ k + length (join (y .sections)) = front-size k (drop at l) (join (y .sections)) (w .within) in
     let p : n + suc (length (y .sections)) ≡ n + 1 + length (y .sections) = omega arith in
     rw (ends (drop at l) n b (Whole k) e, drop-drop k at l, size, p, ← add-assoc b k (length (join (y .sections))))

@@ -11,12 +11,13 @@ use borrow.Author.Tests.{ne-eqb}
 use Rattle.ground.specs.Items.{Step, onward, items}
 use Rattle.ground.specs.Walk.{Every}
 use Rattle.ground.proofs.Items.{items-end, items-ind, on-items}
+use Rattle.ground.proofs.Part.{front-size}
 use Rattle.gather.specs.declared.kind.Kind.{Kind}
 use Rattle.gather.specs.declared.kind.Kind.the-variants.{Nothing, Part, Overlong, Whole}
 use Rattle.gather.specs.Kind.{classify, contradicting, join}
 use Rattle.gather.specs.Rule.{Yield, nothing, unfinished, _then_, firstSection, first, walk}
 use Rattle.gather.specs.Claims.{IsWhole}
-use Rattle.gather.proofs.Classes.{kind-empty, whole-fits, whole-again, part-fits, part-holds, size-is}
+use Rattle.gather.proofs.Classes.{kind-empty, whole-fits, whole-again, part-fits, part-holds}
 
 -- what holds of some bytes and what they give, by the kind of the first: one rule a kind
 pub record Turns (P : List ℕ → Yield → Type 0) : Type 0 where
@@ -110,7 +111,7 @@ walk-split = walk-ind Split (record {
     whole : (s : List ℕ) (n : ℕ) (y : Yield) → classify s ≡ Whole n → Split (drop n s) y → Split s (take n s then y)
     whole s n y e p =
         let w = whole-fits s n e in
-        let size : length (take n s ++ join (y .sections)) ≡ n + length (join (y .sections)) = size-is s (join (y .sections)) n (w .within) in
+        let size : length (take n s ++ join (y .sections)) ≡ n + length (join (y .sections)) = front-size n s (join (y .sections)) (w .within) in
         record {
           joined = rw size (take-add n (length (join (y .sections))) s ∙ ap (λ (l : List ℕ). take n s ++ l) (p .joined));
           rest = rw (size, ← drop-drop (length (join (y .sections))) n s) (p .rest);

@@ -13,3 +13,4 @@ pub mod Field
 pub mod Items
 pub mod Lent
 pub mod Entries
+pub mod Xor

@@ -9,7 +9,7 @@ use native.Mathlib.Numerals.{add-one, add-two}
 use native.Mathlib.Omega.{arith}
 use borrow.Author.Tests.{ltb-true, ltb-false}
 use lib.Dec.{ltb}
-use lib.ListN.{length, getD, take, drop, length-append, length-drop, drop-of-length-le, List·getD-eq-default}
+use lib.ListN.{length, getD, take, drop, length-append, length-drop, drop-of-length-le, List·getD-append, List·getD-eq-default}
 use lib.Seq.{slice, slice-cons, slice-empty, drop-drop, getD-append-add, getD-drop, getD-take, length-take-le, take-all, take-append-add, take-append-le, take-length, take-nil, take-take}
 use Rattle.ground.specs.Number.{bytesAt}
 use Rattle.ground.specs.Write.{put}
@@ -34,6 +34,14 @@ module _ {ℓ} {A : Type ℓ} where
   pub behind-at : (a b : List A) (n i : ℕ) (d : A) → length a ≡ n → n ≤ i → getD (a ++ b) i d ≡ getD b (i - n) d
   behind-at a b n i d e h =
       ap (λ (k : ℕ). getD (a ++ b) k d) (let g : i ≡ length a + (i - n) = omega arith in g) ∙ getD-append-add a b (i - n) d
+
+  -- the first k of s and what follows them: an element of the first k, and the size
+  module _ (k : ℕ) (s t : List A) (h : k ≤ length s) where
+    pub front-at : (i : ℕ) (d : A) → i < k → getD (take k s ++ t) i d ≡ getD s i d
+    front-at i d l = List·getD-append (take k s) t d i (rw (length-take-le k s h) l) ∙ getD-take k s i d l
+
+    pub front-size : length (take k s ++ t) ≡ k + length t
+    front-size = length-append (take k s) t ∙ ap (λ (n : ℕ). n + length t) (length-take-le k s h)
 
   -- ---- by its start and end
   pub slice-take : (f n : ℕ) (l : List A) → slice f (f + n) l ≡ take n (drop f l)

@@ -9,7 +9,7 @@ use lib.Bits.{bitXor, xor-lt}
 use lib.Dec.{lit<}
 use lib.ListN.{length, drop, drop-of-length-le}
 use Rattle.crc.specs.Figure.{residueOf}
-use Rattle.crc.specs.Steps.Register.{enterBytes}
+use Rattle.crc.specs.Steps.{enterBytes}
 use Rattle.crc.proofs.Bridge.{residue-enter}
 use Rattle.crc.proofs.Rule.{turnedOver, loop-turn}
 use Rattle.crc.proofs.residue.Statement.{statement}

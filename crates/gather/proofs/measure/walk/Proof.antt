@@ -6,10 +6,12 @@ use Rattle.gather.proofs.Classes.{WholeFits, whole-fits}
 use Rattle.gather.specs.Steps.{sizesOf}
 use Rattle.gather.specs.Rule.{walk}
 use Rattle.gather.specs.Kind.{classify, join}
-use Rattle.gather.specs.declared.kind.Kind.the-variants.{Whole}
+use Rattle.gather.specs.declared.kind.Kind.{Kind}
+use Rattle.gather.specs.declared.kind.Kind.the-variants.{Nothing, Part, Overlong, Whole}
 use lib.ListN.{length, drop, length-drop}
 use native.Mathlib.Nat.{add-assoc, add-zero, zero-add}
-use Prim.Native.Nat.{_+_, _-_, _≤_}
+use Prim.Native.Nat.{ℕ, _+_, _-_, _≤_}
+use mathlib.Core.List.{List}
 use mathlib.Core.Path.{_≡_, sym, _∙_}
 use native.Mathlib.Omega.{arith}
 use borrow.Author.Needs.{needs}
@@ -24,17 +26,37 @@ Inv-loop payload from sections₀ bytes₀ sections bytes =
 abbrev μ-loop : tie.MeasureT-loop
 μ-loop payload from sections₀ bytes₀ sections bytes = length payload - bytes
 
--- a whole section of k bytes stands at the place reached
-told : (c : tie.After-known-told Inv-loop μ-loop)
-    → classify (drop (c .before .before .before .before .before .before .args .from + c .before .before .before .before .loop .bytes) (now (c .before .before .before .before .before .before .args .payload))) ≡ Whole (c .before .kind .given .0 .0)
-told c = sym (c .before .before .before .kind-at .ensures) ∙ c .before .kind .given .1
+-- where the kind of what is left is told: what was given, how far the loop came, and the bytes that are left
+module _ (m : tie.After-kind-at Inv-loop μ-loop) where
+  abbrev start : tie.Start Inv-loop μ-loop
+  start = m .before .before .before
 
-whole : (c : tie.After-known-told Inv-loop μ-loop)
-    → WholeFits (drop (c .before .before .before .before .before .before .args .from + c .before .before .before .before .loop .bytes) (now (c .before .before .before .before .before .before .args .payload))) (c .before .kind .given .0 .0)
-whole c = whole-fits _ _ (told c)
+  abbrev left : List ℕ
+  left = drop (start .args .from + m .before .loop .bytes) (now (start .args .payload))
+
+  is : (k : Kind) → m .kind-at .result ≡ k → classify left ≡ k
+  is k e = sym (m .kind-at .ensures) ∙ e
+
+-- a whole section of k bytes stands first
+module _ (c : tie.After-known-told Inv-loop μ-loop) where
+  abbrev here : tie.After-kind-at Inv-loop μ-loop
+  here = c .before .before .before
+
+  abbrev k : ℕ
+  k = c .before .kind .given .0 .0
+
+  told : classify (left here) ≡ Whole k
+  told = is here (Whole k) (c .before .kind .given .1)
+
+  fits : WholeFits (left here) k
+  fits = whole-fits (left here) k told
+
+  size : length (left here) ≡ length (now (start here .args .payload)) - (start here .args .from + here .before .loop .bytes)
+  size = length-drop (start here .args .from + here .before .loop .bytes) (now (start here .args .payload))
 
 loop-holds : tie.Need-loop-holds Inv-loop μ-loop
-loop-holds c = let a = c .before .args in
+loop-holds c =
+    let a = c .before .args in
     let s = drop (a .from) (now (a .payload)) in (
       search needs,
       search needs,
@@ -60,11 +82,10 @@ new-requires : tie.Need-new-requires Inv-loop μ-loop
 new-requires c κs = search needs
 
 returns : tie.Need-returns Inv-loop μ-loop
-returns c = let a = c .before .before .before .before .before .before .args in
-    let l = c .before .before .before .before .loop in
-    let s = drop (a .from + l .bytes) (now (a .payload)) in
-    c .new .ensures
-    ∙ sym (l .inv .2 ∙ ends-nothing s (l .sections) (l .bytes) (sym (c .before .before .before .kind-at .ensures) ∙ c .before .enum-told .given .1))
+returns c =
+    let m = c .before .before .before in
+    let l = m .before .loop in
+    c .new .ensures ∙ sym (l .inv .2 ∙ ends-nothing (left m) (l .sections) (l .bytes) (is m Nothing (c .before .enum-told .given .1)))
 
 enum-told-2 : tie.Need-enum-told-2 Inv-loop μ-loop
 enum-told-2 c = search needs
@@ -73,11 +94,12 @@ new-requires-2 : tie.Need-new-requires-2 Inv-loop μ-loop
 new-requires-2 c κs = search needs
 
 returns-2 : tie.Need-returns-2 Inv-loop μ-loop
-returns-2 c = let a = c .before .before .before .before .before .before .args in
-    let l = c .before .before .before .before .loop in
-    let s = drop (a .from + l .bytes) (now (a .payload)) in
+returns-2 c =
+    let m = c .before .before .before in
+    let l = m .before .loop in
+    let a = start m .args in
     c .new2 .ensures
-    ∙ sym (l .inv .2 ∙ ends-part s (l .sections) (l .bytes) (sym (c .before .before .before .kind-at .ensures) ∙ c .before .enum-told2 .given .1) ∙ rw (length-drop (a .from + l .bytes) (now (a .payload))))
+    ∙ sym (l .inv .2 ∙ ends-part (left m) (l .sections) (l .bytes) (is m Part (c .before .enum-told2 .given .1)) ∙ rw (length-drop (a .from + l .bytes) (now (a .payload))))
 
 enum-told-3 : tie.Need-enum-told-3 Inv-loop μ-loop
 enum-told-3 c = search needs
@@ -86,47 +108,31 @@ new-requires-3 : tie.Need-new-requires-3 Inv-loop μ-loop
 new-requires-3 c κs = search needs
 
 returns-3 : tie.Need-returns-3 Inv-loop μ-loop
-returns-3 c = let a = c .before .before .before .before .before .before .args in
-    let l = c .before .before .before .before .loop in
-    let s = drop (a .from + l .bytes) (now (a .payload)) in
-    c .new3 .ensures
-    ∙ sym (l .inv .2 ∙ ends-overlong s (l .sections) (l .bytes) (sym (c .before .before .before .kind-at .ensures) ∙ c .before .enum-told3 .given .1))
+returns-3 c =
+    let m = c .before .before .before in
+    let l = m .before .loop in
+    c .new3 .ensures ∙ sym (l .inv .2 ∙ ends-overlong (left m) (l .sections) (l .bytes) (is m Overlong (c .before .enum-told3 .given .1)))
 
 enum-known-kind : tie.Need-enum-known-kind Inv-loop μ-loop
 enum-known-kind c = search needs
 
 add-sections : tie.Need-add-sections Inv-loop μ-loop
-add-sections c = let a = c .before .before .before .before .before .before .args in
-    let l = c .before .before .before .before .loop in
-    let w = whole c in
-    let size = length-drop (a .from + l .bytes) (now (a .payload)) in
-    omega (arith, w .least, w .within, l .inv, c .before .before .before .before .before .before .good)
+add-sections c = let w = fits c in omega (arith, w .least, w .within, size c, here c .before .loop .inv, start (here c) .good)
 
 add-bytes : tie.Need-add-bytes Inv-loop μ-loop
-add-bytes c = let a = c .before .before .before .before .before .before .args in
-    let l = c .before .before .before .before .loop in
-    let w = whole c in
-    let size = length-drop (a .from + l .bytes) (now (a .payload)) in
-    omega (arith, w .least, w .within, l .inv, c .before .before .before .before .before .before .good)
+add-bytes c = let w = fits c in omega (arith, w .least, w .within, size c, here c .before .loop .inv, start (here c) .good)
 
 loop-less : tie.Need-loop-less Inv-loop μ-loop
-loop-less c = let a = c .before .before .before .before .before .before .args in
-    let l = c .before .before .before .before .loop in
-    let w = whole c in
-    let size = length-drop (a .from + l .bytes) (now (a .payload)) in
-    omega (arith, w .least, w .within, l .inv)
+loop-less c = let w = fits c in omega (arith, w .least, w .within, size c, here c .before .loop .inv)
 
 loop-again : tie.Need-loop-again Inv-loop μ-loop
-loop-again c = let a = c .before .before .before .before .before .before .args in
-    let l = c .before .before .before .before .loop in
-    let w = whole c in
-    let size = length-drop (a .from + l .bytes) (now (a .payload)) in
-    let k = c .before .kind .given .0 .0 in (
-      omega (arith, w .least, w .within, l .inv),
+loop-again c =
+    let w = fits c in
+    let l = here c .before .loop in
+    let a = start (here c) .args in (
+      omega (arith, w .least, w .within, size c, l .inv),
       omega (arith, w .least, l .inv),
-      l .inv .2
-          ∙ grows (now (a .payload)) (a .from + l .bytes) k (l .sections) (l .bytes) (told c)
-          ∙ rw (add-assoc (a .from) (l .bytes) k),
+      l .inv .2 ∙ grows (now (a .payload)) (a .from + l .bytes) (k c) (l .sections) (l .bytes) (told c) ∙ rw (add-assoc (a .from) (l .bytes) (k c)),
     )
 
 pub walk-spec : {M : Type 1} → statement M

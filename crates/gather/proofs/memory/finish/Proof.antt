@@ -27,12 +27,16 @@ same-length : tie.Need-same-length
 same-length c = search needs
 
 returns : tie.Need-returns
-returns c = let a = c .before .before .before .before .before .before .before .before .before .before .before .before .args in
-    let first = c .before .before .before .before .before .before .before .before .lesser .result in
-    c .before .before .copy2 .ensures
-    ∙ ap (λ (l : List ℕ). put l first (stretch (a .bytes - first) (now (a .payload)) (a .from))) (c .before .before .before .before .before .before .copy .ensures)
-    ∙ finish-put (now (a .out)) (now (a .store)) (now (a .payload)) (a .base) (a .held) (a .from) (a .bytes) first
-    (c .before .before .before .before .before .before .before .before .before .before .before .before .pre .0) (c .before .before .before .before .before .before .before .before .before .before .before .before .pre .1) (c .before .before .before .before .before .before .before .before .before .before .before .before .pre .2) (c .before .before .before .before .before .before .before .before .lesser .ensures)
+returns c =
+    let rest = c .before .before in
+    let held = rest .before .before .before .before in
+    let least = held .before .before in
+    let start = least .before .before .before .before in
+    let a = start .args in
+    let first = least .lesser .result in
+    rest .copy2 .ensures
+    ∙ ap (λ (l : List ℕ). put l first (stretch (a .bytes - first) (now (a .payload)) (a .from))) (held .copy .ensures)
+    ∙ finish-put (now (a .out)) (now (a .store)) (now (a .payload)) (a .base) (a .held) (a .from) (a .bytes) first (start .pre .0) (start .pre .1) (start .pre .2) (least .lesser .ensures)
 
 pub finish-spec : {M : Type 1} → statement M
 finish-spec =

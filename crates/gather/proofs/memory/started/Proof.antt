@@ -1,36 +1,64 @@
 -- `started` measures both parts of the payload, then copies: the finished held section, the sections after it, and what is held.
 -- Assumes nothing.
 use denote.Ref.{now}
-use Rattle.gather.proofs.OnMemory.{AddedFits, added-fits, WalkedFits, walked-fits, unfinished-le, started-carried}
+use mathlib.Core.Path.{_≡_, _∙_, ap, ap₂}
+use mathlib.Core.List.{List}
+use Prim.Native.Nat.{ℕ, _+_, _-_, min}
+use native.Mathlib.Omega.{arith}
+use lib.ListN.{length, getD, drop, length-drop}
 use Rattle.ground.proofs.Part.{length-part}
+use Rattle.ground.specs.Write.{put}
 use Rattle.gather.specs.Memory.{stretch}
 use Rattle.gather.specs.Steps.{carriedAs}
 use Rattle.gather.specs.declared.measure.Sizes.{Sizes}
-use Rattle.ground.specs.Write.{put}
-use lib.ListN.{length, drop, length-drop}
-use Prim.Native.Nat.{ℕ, _-_, _+_}
-use mathlib.Core.List.{List}
-use native.Mathlib.Omega.{arith}
-use mathlib.Core.Path.{_∙_, ap, ap₂}
+use Rattle.gather.proofs.OnMemory.{AddedFits, added-fits, WalkedFits, walked-fits, unfinished-le, started-carried}
 use borrow.Author.Needs.{needs}
 use Rattle.gather.proofs.memory.started.Statement.{statement}
 use Rattle.gather.proofs.memory.started.Tie as tie
 
--- what was measured of the bytes that the pointer counts, and of those after them
-first-fits : (c : tie.After-added) → AddedFits (c .before .before .before .before .before .before .before .args .held) (c .before .before .lesser .result - 1) (c .added .result)
-first-fits c =
-    let a = c .before .before .before .before .before .before .before .args in
-    let from = c .before .before .lesser .result in
-    added-fits (stretch (a .held) (now (a .store)) (a .base)) (stretch (from - 1) (now (a .payload)) 1) (a .held) (from - 1) (c .added .result)
-    (length-part (a .held) (now (a .store)) (a .base) (omega (arith, c .before .before .before .before .before .before .before .pre)))
-    (length-part (from - 1) (now (a .payload)) 1 (omega (arith, c .before .before .before .before .before .before .before .pre, c .before .before .lesser .ensures)))
-    (c .added .ensures)
+-- where both parts of the payload are measured: what was given, where the second part starts, and what each part gives
+module _ (m : tie.After-walk) where
+  abbrev begun : tie.Start
+  begun = m .before .before .before .before .before .before .before .before
 
-rest-fits : (c : tie.After-walk) → WalkedFits (length (now (c .before .before .before .before .before .before .before .before .args .payload)) - c .before .before .before .lesser .result) (c .walk .result)
-rest-fits c =
-    let s = now (c .before .before .before .before .before .before .before .before .args .payload) in
-    let from = c .before .before .before .lesser .result in
-    rw (length-drop from s) at (walked-fits (drop from s) (c .walk .result) (c .walk .ensures))
+  abbrev from : ℕ
+  from = m .before .before .before .lesser .result
+
+  abbrev first : Sizes
+  first = m .before .added .result
+
+  abbrev rest : Sizes
+  rest = m .walk .result
+
+  cut : from ≡ min (1 + getD (now (begun .args .payload)) 0 0) (length (now (begun .args .payload)))
+  cut = m .before .before .before .lesser .ensures
+
+  first-fits : AddedFits (begun .args .held) (from - 1) first
+  first-fits =
+      let a = begun .args in
+      added-fits (stretch (a .held) (now (a .store)) (a .base)) (stretch (from - 1) (now (a .payload)) 1) (a .held) (from - 1) first
+      (length-part (a .held) (now (a .store)) (a .base) (omega (arith, begun .pre)))
+      (length-part (from - 1) (now (a .payload)) 1 (omega (arith, begun .pre, cut)))
+      (m .before .added .ensures)
+
+  rest-fits : WalkedFits (length (now (begun .args .payload)) - from) rest
+  rest-fits =
+      let s = now (begun .args .payload) in
+      rw (length-drop from s) at (walked-fits (drop from s) rest (m .walk .ensures))
+
+-- where the finished held section, the sections after it and what is held are copied
+abbrev finished : tie.After-finish → tie.After-walk
+finished c = c .before .before .before
+
+abbrev copied : tie.After-copy → tie.After-walk
+copied c = finished (c .before .before .before .before)
+
+abbrev stored : tie.After-copy2 → tie.After-walk
+stored c = copied (c .before .before .before .before .before)
+
+-- and where what the first part still holds is given up
+abbrev told : tie.After-unfinished → tie.After-walk
+told c = stored (c .before .before .before .before .before .before .before)
 
 shared-slice-read-lesser : tie.Need-shared-slice-read-lesser
 shared-slice-read-lesser c = search needs
@@ -54,31 +82,40 @@ walk-requires : tie.Need-walk-requires
 walk-requires c κs = search needs
 
 finish-requires : tie.Need-finish-requires
-finish-requires c κs = omega (arith, first-fits (c .before .before .before), c .before .before .before .before .before .before .before .before .before .before .pre, c .before .before .before .before .before .lesser .ensures)
+finish-requires c κs = let m = c .before .before in omega (arith, first-fits m, begun m .pre, cut m)
 
 copy-requires : tie.Need-copy-requires
-copy-requires c κs = omega (arith, first-fits (c .before .before .before .before .before .before .before), rest-fits (c .before .before .before .before .before .before), c .before .before .before .before .before .before .before .before .before .before .before .before .before .before .pre, c .before .before .before .before .before .before .before .before .before .lesser .ensures, c .before .before .before .finish .kept)
+copy-requires c κs =
+    let f = c .before .before .before in
+    let m = finished f in
+    omega (arith, first-fits m, rest-fits m, begun m .pre, cut m, f .finish .kept)
 
 add-copy : tie.Need-add-copy
-add-copy c = omega (arith, first-fits (c .before .before .before .before .before .before .before .before .before .before .before .before), rest-fits (c .before .before .before .before .before .before .before .before .before .before .before), c .before .before .before .before .before .before .before .before .before .before .before .before .before .before .before .before .before .before .before .pre, c .before .before .before .before .before .before .before .before .before .before .before .before .before .before .lesser .ensures)
+add-copy c = let m = copied (c .before .before .before .before) in omega (arith, first-fits m, rest-fits m, begun m .pre, cut m)
 
 copy-requires-2 : tie.Need-copy-requires-2
-copy-requires-2 c κs = omega (arith, first-fits (c .before .before .before .before .before .before .before .before .before .before .before .before), rest-fits (c .before .before .before .before .before .before .before .before .before .before .before), c .before .before .before .before .before .before .before .before .before .before .before .before .before .before .before .before .before .before .before .pre, c .before .before .before .before .before .before .before .before .before .before .before .before .before .before .lesser .ensures)
+copy-requires-2 c κs = let m = copied (c .before .before .before .before) in omega (arith, first-fits m, rest-fits m, begun m .pre, cut m)
 
 add-t11 : tie.Need-add-t11
-add-t11 c = omega (arith, first-fits (c .before .before .before .before .before .before .before .before .before .before .before .before .before .before .before .before .before), rest-fits (c .before .before .before .before .before .before .before .before .before .before .before .before .before .before .before .before), c .before .before .before .before .before .before .before .before .before .before .before .before .before .before .before .before .before .before .before .before .before .before .before .before .pre, c .before .before .before .before .before .before .before .before .before .before .before .before .before .before .before .before .before .before .before .lesser .ensures)
+add-t11 c = let m = stored (c .before .before .before .before) in omega (arith, first-fits m, rest-fits m, begun m .pre, cut m)
 
 add-t13 : tie.Need-add-t13
-add-t13 c = omega (arith, first-fits (c .before .before .before .before .before .before .before .before .before .before .before .before .before .before .before .before .before .before .before), rest-fits (c .before .before .before .before .before .before .before .before .before .before .before .before .before .before .before .before .before .before), c .before .before .before .before .before .before .before .before .before .before .before .before .before .before .before .before .before .before .before .before .before .before .before .before .before .before .pre, c .before .before .before .before .before .before .before .before .before .before .before .before .before .before .before .before .before .before .before .before .before .lesser .ensures)
+add-t13 c = let m = stored (c .before .before .before .before .before .before) in omega (arith, first-fits m, rest-fits m, begun m .pre, cut m)
 
 unfinished-requires : tie.Need-unfinished-requires
 unfinished-requires c κs = search needs
 
 add-t25 : tie.Need-add-t25
-add-t25 c = omega (arith, first-fits (c .before .before .before .before .before .before .before .before .before .before .before .before .before .before .before .before .before .before .before .before .before), c .before .unfinished .ensures, unfinished-le (c .before .before .before .before .before .before .before .before .before .before .before .before .before .before .before .before .before .before .before .before .before .added .result .held))
+add-t25 c =
+    let u = c .before in
+    let m = told u in
+    omega (arith, first-fits m, u .unfinished .ensures, unfinished-le (first m .held))
 
 add-t26 : tie.Need-add-t26
-add-t26 c = omega (arith, first-fits (c .before .before .before .before .before .before .before .before .before .before .before .before .before .before .before .before .before .before .before .before .before .before), rest-fits (c .before .before .before .before .before .before .before .before .before .before .before .before .before .before .before .before .before .before .before .before .before), c .before .before .unfinished .ensures, unfinished-le (c .before .before .before .before .before .before .before .before .before .before .before .before .before .before .before .before .before .before .before .before .before .before .added .result .held))
+add-t26 c =
+    let u = c .before .before in
+    let m = told u in
+    omega (arith, first-fits m, rest-fits m, u .unfinished .ensures, unfinished-le (first m .held))
 
 same-length : tie.Need-same-length
 same-length c = search needs
@@ -87,17 +124,19 @@ same-length-2 : tie.Need-same-length-2
 same-length-2 c = search needs
 
 returns : tie.Need-returns
-returns c = let a = c .before .before .before .before .before .before .before .before .before .before .before .before .before .before .before .before .before .before .before .before .before .before .before .before .before .before .before .before .before .args in
-    let from = c .before .before .before .before .before .before .before .before .before .before .before .before .before .before .before .before .before .before .before .before .before .before .before .before .lesser .result in
-    let x = c .before .before .before .before .before .before .before .before .before .before .before .before .before .before .before .before .before .before .before .before .before .before .added .result in
-    let y = c .before .before .before .before .before .before .before .before .before .before .before .before .before .before .before .before .before .before .before .before .before .walk .result in
-    let u = c .before .before .unfinished .result in
-    let z : Sizes = record { sections = x .sections + y .sections; bytes = x .bytes + y .bytes; held = y .held; «given_up» = x .«given_up» + u + y .«given_up» } in
-    ap₂ (λ (s o : List ℕ). carriedAs z s o)
-    (c .before .before .before .before .before .before .before .before .before .copy2 .ensures)
-    (c .before .before .before .before .before .before .before .before .before .before .before .before .before .before .copy .ensures ∙ ap (λ (o : List ℕ). put o (x .bytes) (stretch (y .bytes) (now (a .payload)) from)) (c .before .before .before .before .before .before .before .before .before .before .before .before .before .before .before .before .before .before .finish .ensures))
-    ∙ started-carried (a .held) (now (a .payload)) (now (a .store)) (a .base) (now (a .out)) (c .before .before .before .before .before .before .before .before .before .before .before .before .before .before .before .before .before .before .before .before .before .before .before .before .before .before .before .before .before .pre .0) (c .before .before .before .before .before .before .before .before .before .before .before .before .before .before .before .before .before .before .before .before .before .before .before .before .before .before .before .before .before .pre .1) from (c .before .before .before .before .before .before .before .before .before .before .before .before .before .before .before .before .before .before .before .before .before .before .before .before .lesser .ensures)
-    x y u (c .before .before .before .before .before .before .before .before .before .before .before .before .before .before .before .before .before .before .before .before .before .before .added .ensures) (c .before .before .before .before .before .before .before .before .before .before .before .before .before .before .before .before .before .before .before .before .before .walk .ensures) (c .before .before .unfinished .ensures)
+returns c =
+    let u = c .before .before in
+    let s = u .before .before .before .before .before .before .before in
+    let o = s .before .before .before .before .before in
+    let f = o .before .before .before .before in
+    let m = finished f in
+    let a = begun m .args in
+    let x = first m in
+    let y = rest m in
+    let z : Sizes = record { sections = x .sections + y .sections; bytes = x .bytes + y .bytes; held = y .held; «given_up» = x .«given_up» + u .unfinished .result + y .«given_up» } in
+    ap₂ (carriedAs z) (s .copy2 .ensures) (o .copy .ensures ∙ ap (λ (l : List ℕ). put l (x .bytes) (stretch (y .bytes) (now (a .payload)) (from m))) (f .finish .ensures))
+    ∙ rw (u .unfinished .ensures) (started-carried (a .held) (now (a .payload)) (now (a .store)) (a .base) (now (a .out)) (begun m .pre .0) (begun m .pre .1)
+    (from m) (cut m) x y (m .before .added .ensures) (m .walk .ensures))
 
 pub started-spec : {M : Type 1} → statement M
 started-spec =

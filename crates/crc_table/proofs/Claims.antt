@@ -1,0 +1,8 @@
+-- A promise that is an equation leaves one outcome.
+-- Assumes nothing.
+use Rattle.ground.proofs.Outcome.{determined}
+use Rattle.crc_table.specs.Table.{entryOf}
+use Rattle.crc_table.specs.Claims.{Claims}
+
+pub claims : Claims
+claims = record { givesEntry = λ key. determined (entryOf key) }

@@ -1,0 +1,4 @@
+pub mod Table
+pub mod Promises
+pub mod Claims
+pub mod Steps

@@ -1,0 +1,37 @@
+-- What one walk over a PMT says: how many entries there are, and of one of its loops how many descriptors it has and where an item of it stands.
+use mathlib.Core.List.{List}
+use Prim.Native.Nat.{ℕ, zero, suc}
+use lib.ListN.{length}
+use Rattle.ground.specs.Answer.{Answer, refused, given}
+use Rattle.ground.specs.Refusal.{judge}
+use Rattle.loops.specs.Body.{streamsOf, pmtRefusals, entryAt, loopAt, descriptorAt}
+use Rattle.loops.specs.declared.Walked.{Walked}
+use Rattle.loops.specs.declared.Walked.the-variants as walked
+
+-- what a walk finds
+pub record Found : Type 0 where
+  pub entries : ℕ
+  pub descriptors : ℕ
+  pub place : ℕ
+
+abbrev pub found : ℕ → ℕ → ℕ → Found
+found entries descriptors place = record { entries = entries; descriptors = descriptors; place = place }
+
+-- what `walk` answers
+abbrev pub toldWalked : Walked → Answer Found
+toldWalked (walked.Whole entries descriptors place) = given (found entries descriptors place)
+toldWalked (walked.Refused n) = refused n
+
+-- where an item of the loop with a number stands: item 0 is the entry that has the loop, and the program's loop has none; item i + 1 is descriptor i. 0 where there is none
+abbrev pub placeOf : List ℕ → ℕ → ℕ → ℕ
+placeOf s number (suc i) = descriptorAt s number i .at
+placeOf s zero zero = 0
+placeOf s (suc i) zero = entryAt s i .at
+
+-- what is found of the loop with a number and an item of it
+abbrev pub foundIn : List ℕ → ℕ → ℕ → Found
+foundIn s number item = found (length (streamsOf s .items)) (length (loopAt s number)) (placeOf s number item)
+
+-- the same, or the first refusal that applies
+abbrev pub walkOf : List ℕ → ℕ → ℕ → Answer Found
+walkOf s number item = judge refused (pmtRefusals s) (given (foundIn s number item))

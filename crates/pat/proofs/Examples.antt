@@ -1,0 +1,30 @@
+-- A worked example, by computation: a PAT of two entries.
+-- Assumes nothing.
+use mathlib.Core.Path.{_≡_, refl}
+use mathlib.Core.Bool.{true}
+use mathlib.Core.List.{List, [], _∷_}
+use Prim.Native.Nat.{ℕ}
+use Rattle.ground.specs.Answer.{refused, given}
+use Rattle.crc.specs.Figure.{tick, decoder, right}
+use Rattle.pat.specs.Pat.{patOf, patHeaderOf, patEntryOf}
+
+-- the network's PID is 0x0010, and program 1 is mapped by PID 0x0100
+abbrev pub pat : List ℕ
+pat =
+    0x00 ∷ 0xB0 ∷ 0x11 ∷ 0x00 ∷ 0x01 ∷ 0xC1 ∷ 0x00 ∷ 0x00 ∷ 0x00 ∷ 0x00 ∷ 0xE0 ∷ 0x10 ∷ 0x00 ∷ 0x01 ∷ 0xE1 ∷ 0x00 ∷ 0x9E ∷ 0xA6 ∷ 0x64 ∷ 0x96 ∷ []
+
+pub pat-header : patHeaderOf pat ≡ given (record { heading = record { id = 1; version = 0; current = true; sectionNumber = 0; lastNumber = 0 }; entries = 2 })
+unfolding tick decoder right patOf
+pat-header = refl
+
+pub pat-network : patEntryOf pat 0 ≡ given (record { programNumber = 0; pid = 0x0010 })
+unfolding tick decoder right patOf
+pat-network = refl
+
+pub pat-program : patEntryOf pat 1 ≡ given (record { programNumber = 1; pid = 0x0100 })
+unfolding tick decoder right patOf
+pat-program = refl
+
+pub pat-third : patEntryOf pat 2 ≡ refused 27
+unfolding tick decoder right patOf
+pat-third = refl

@@ -1,0 +1,5 @@
+pub mod Examples
+pub mod Programs
+pub mod Passed
+pub mod Limits
+pub mod Claims

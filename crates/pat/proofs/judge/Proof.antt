@@ -1,0 +1,52 @@
+-- What the shared rows let pass is judged by the PAT's own.
+-- Assumes nothing.
+use mathlib.Core.Path.{_≡_, sym, _∙_, ap}
+use native.Mathlib.Omega.{arith}
+use Rattle.ground.specs.Answer.{given}
+use Rattle.psi.specs.Refusals.{shared}
+use Rattle.pat.specs.Pat.{patOwn}
+use Rattle.psi.specs.Answers.{toldJudged}
+use Rattle.psi.specs.Refusals.{verdictOf}
+use Rattle.ground.proofs.Judged.{goes-on, stays-refused}
+use Rattle.psi.proofs.Passed.{fine}
+use borrow.Author.Needs.{needs}
+use Rattle.pat.proofs.judge.Statement.{statement}
+use Rattle.pat.proofs.judge.Tie as tie
+
+-- the shared rows let the section pass
+passes : (c : tie.After-enum-told) → verdictOf (shared 0 9 (c .before .before .before .before .args .s .now)) ≡ given tt
+passes c = sym (c .before .before .judge .ensures) ∙ ap toldJudged (c .enum-told .given .1)
+
+judge-requires : tie.Need-judge-requires
+judge-requires c κs = search needs
+
+enum-known-shared : tie.Need-enum-known-shared
+enum-known-shared c = search needs
+
+enum-told : tie.Need-enum-told
+enum-told c = search needs
+
+judge-own-requires : tie.Need-judge-own-requires
+judge-own-requires c κs = let p = fine 0 9 (c .before .before .before .before .args .s .now) (passes c) in omega arith
+
+returns : tie.Need-returns
+returns c =
+    let s = c .before .before .before .before .before .args .s .now in
+    let e = sym (c .before .before .before .judge .ensures) ∙ ap toldJudged (c .before .shared .given .1) in
+    sym (stays-refused tt tt (shared 0 9 s) _ e (patOwn s))
+
+returns-2 : tie.Need-returns-2
+returns-2 c =
+    let s = c .before .before .before .before .before .args .s .now in
+    c .judge-own .ensures ∙ sym (goes-on tt tt (shared 0 9 s) tt (passes (c .before)) (patOwn s))
+
+pub judge-spec : {M : Type 1} → statement M
+judge-spec =
+    tie.close
+    (tie.spec
+    judge-requires
+    enum-known-shared
+    enum-told
+    judge-own-requires
+    returns
+    returns-2)

@@ -1,0 +1,78 @@
+-- Nothing of an answer is left untold, and the tables are exact as every table is; the rest is cited.
+-- Assumes nothing.
+use mathlib.Core.Path.{_≡_, refl}
+use mathlib.Core.List.{List}
+use Prim.Native.Nat.{ℕ, _+_, _≤_}
+use native.Mathlib.Omega.{arith}
+use Rattle.ground.specs.Answer.{Answer, refused, given}
+use Rattle.ground.proofs.Judged.{exact, given-by}
+use Rattle.ground.proofs.Outcome.{determined, determined-told}
+use Rattle.pmt.specs.Answers.{PmtHeading, ElementaryStream, DescriptorPlace, toldPmtHeader, toldPmtEntry, toldPmtDescriptor}
+use Rattle.psi.proofs.Claims.{madeHead}
+use Rattle.loops.specs.Body.{pmtRefusals}
+use Rattle.pmt.specs.Pmt
+use Rattle.pmt.specs.Claims.{Claims}
+use Rattle.pmt.specs.declared.PmtHeader.{PmtHeader}
+use Rattle.pmt.specs.declared.PmtHeader.the-variants as pmt-header
+use Rattle.pmt.specs.declared.PmtEntry.{PmtEntry}
+use Rattle.pmt.specs.declared.PmtEntry.the-variants as pmt-entry
+use Rattle.pmt.specs.declared.PmtDescriptor.{PmtDescriptor}
+use Rattle.pmt.specs.declared.PmtDescriptor.the-variants as pmt-descriptor
+use Rattle.loops.proofs.Passed.{PmtPassed, pmt-passed}
+use Rattle.pmt.proofs.Limits.{pmt-limit, pmt-bytes}
+use Rattle.pmt.proofs.Placed.{part-inside, part-bytes}
+
+-- ---- the answer that says what was told, and that it is the answer
+abbrev madePmtHeader : Answer PmtHeading → PmtHeader
+madePmtHeader (given h) = pmt-header.Header (madeHead (h .heading)) (record { 0 = h .pcrPid }) (h .descriptors) (h .entries)
+madePmtHeader (refused n) = pmt-header.Refused n
+
+backPmtHeader : (r : PmtHeader) → madePmtHeader (toldPmtHeader r) ≡ r
+backPmtHeader (pmt-header.Header head pcr descriptors entries) = refl
+backPmtHeader (pmt-header.Refused n) = refl
+
+abbrev madePmtEntry : Answer ElementaryStream → PmtEntry
+madePmtEntry (given s) = pmt-entry.Entry (record { «stream_type» = s .streamType; pid = record { 0 = s .pid }; descriptors = s .descriptors })
+madePmtEntry (refused n) = pmt-entry.Refused n
+
+backPmtEntry : (r : PmtEntry) → madePmtEntry (toldPmtEntry r) ≡ r
+backPmtEntry (pmt-entry.Entry s) = refl
+backPmtEntry (pmt-entry.Refused n) = refl
+
+abbrev madePmtDescriptor : Answer DescriptorPlace → PmtDescriptor
+madePmtDescriptor (given p) = pmt-descriptor.Descriptor (record { tag = p .tag; start = p .start; size = p .size })
+madePmtDescriptor (refused n) = pmt-descriptor.Refused n
+
+backPmtDescriptor : (r : PmtDescriptor) → madePmtDescriptor (toldPmtDescriptor r) ≡ r
+backPmtDescriptor (pmt-descriptor.Descriptor p) = refl
+backPmtDescriptor (pmt-descriptor.Refused n) = refl
+
+-- ---- a PMT whose header is given
+module _ (s : List ℕ) (h : PmtHeading) (e : Pmt.pmtHeaderOf s ≡ given h) where
+  passes : PmtPassed s
+  passes = pmt-passed s (given-by (pmtRefusals s) (Pmt.pmtHeadingOf s) h e .0)
+
+  is : h ≡ Pmt.pmtHeadingOf s
+  is = given-by (pmtRefusals s) (Pmt.pmtHeadingOf s) h e .1
+
+  numbers : h .heading .sectionNumber ≤ h .heading .lastNumber
+  numbers = rw is (let n = passes .fixed .number in omega arith)
+
+pub claims : Claims
+claims =
+    record {
+      pmtHeader = λ s. determined-told toldPmtHeader madePmtHeader backPmtHeader (Pmt.pmtHeaderOf s);
+      pmtEntry = λ s i. determined-told toldPmtEntry madePmtEntry backPmtEntry (Pmt.pmtEntryOf s i);
+      programDescriptor = λ s i. determined-told toldPmtDescriptor madePmtDescriptor backPmtDescriptor (Pmt.descriptorIn s 0 i);
+      entryDescriptor = λ s e i. determined-told toldPmtDescriptor madePmtDescriptor backPmtDescriptor (Pmt.descriptorIn s (e + 1) i);
+      programDescriptorBytes = λ l i. determined (Pmt.partOf l (Pmt.descriptorIn (l .bytes) 0 i));
+      entryDescriptorBytes = λ l e i. determined (Pmt.partOf l (Pmt.descriptorIn (l .bytes) (e + 1) i));
+      pmtHeaderExact = λ s. exact (pmtRefusals s) (Pmt.pmtHeadingOf s);
+      pmtEntryExact = λ s i. exact (Pmt.pmtEntryRefusals s i) _;
+      descriptorExact = λ s number i. exact (Pmt.descriptorRefusals s number i) _;
+      pmtLimit = λ s h e. rw (is s h e) (pmt-limit s (passes s h e));
+      pmtBytes = λ s h e. pmt-bytes s (passes s h e);
+      pmtNumbers = numbers;
+      partInside = part-inside;
+      partBytes = part-bytes;
+    }

@@ -1,0 +1,37 @@
+-- A worked example, by computation: a PMT of two streams, one with two descriptors.
+-- Assumes nothing.
+use mathlib.Core.Path.{_≡_, refl}
+use mathlib.Core.Bool.{true}
+use mathlib.Core.List.{List, [], _∷_}
+use Prim.Native.Nat.{ℕ}
+use Rattle.ground.specs.Answer.{refused, given}
+use Rattle.crc.specs.Figure.{tick, decoder, right}
+use Rattle.loops.specs.Loop.{descriptorsOf, entriesOf}
+use Rattle.loops.specs.Body.{programOf, streamsOf}
+use Rattle.pmt.specs.Pmt.{pmtHeaderOf, pmtEntryOf, descriptorIn}
+
+-- program 1: the clock is on PID 0x0101, with a descriptor; video on 0x0101, and audio on 0x0102 with two descriptors
+abbrev pub pmt : List ℕ
+pmt =
+    0x02 ∷ 0xB0 ∷ 0x26 ∷ 0x00 ∷ 0x01 ∷ 0xC5 ∷ 0x00 ∷ 0x00 ∷ 0xE1 ∷ 0x01 ∷ 0xF0 ∷ 0x06 ∷ 0x09 ∷ 0x04 ∷ 0x0B ∷ 0x00 ∷ 0xE2 ∷ 0x00 ∷ 0x1B ∷ 0xE1 ∷ 0x01 ∷ 0xF0 ∷ 0x00 ∷ 0x0F ∷ 0xE1 ∷ 0x02 ∷ 0xF0 ∷ 0x09 ∷ 0x0A ∷ 0x04 ∷ 0x65 ∷ 0x6E ∷ 0x67 ∷ 0x00 ∷ 0x52 ∷ 0x01 ∷ 0x07 ∷ 0x8D ∷ 0xD8 ∷ 0x17 ∷ 0xC9 ∷ []
+
+pub pmt-header : pmtHeaderOf pmt ≡ given (record { heading = record { id = 1; version = 2; current = true; sectionNumber = 0; lastNumber = 0 }; pcrPid = 0x0101; descriptors = 1; entries = 2 })
+unfolding tick decoder right programOf streamsOf descriptorsOf entriesOf
+pmt-header = refl
+
+pub pmt-audio : pmtEntryOf pmt 1 ≡ given (record { streamType = 0x0F; pid = 0x0102; descriptors = 2 })
+unfolding tick decoder right programOf streamsOf descriptorsOf entriesOf
+pmt-audio = refl
+
+pub pmt-program-descriptor : descriptorIn pmt 0 0 ≡ given (record { tag = 0x09; start = 14; size = 4 })
+unfolding tick decoder right programOf streamsOf descriptorsOf entriesOf
+pmt-program-descriptor = refl
+
+pub pmt-audio-descriptor : descriptorIn pmt 2 1 ≡ given (record { tag = 0x52; start = 36; size = 1 })
+unfolding tick decoder right programOf streamsOf descriptorsOf entriesOf
+pmt-audio-descriptor = refl
+
+-- the video stream has no descriptor
+pub pmt-none : descriptorIn pmt 1 0 ≡ refused 27
+unfolding tick decoder right programOf streamsOf descriptorsOf entriesOf
+pmt-none = refl

@@ -1,0 +1,6 @@
+pub mod Examples
+pub mod Placement
+pub mod Placed
+pub mod Answers
+pub mod Limits
+pub mod Claims

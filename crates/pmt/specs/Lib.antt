@@ -1,0 +1,5 @@
+pub mod Answers
+pub mod Pmt
+pub mod Promises
+pub mod Claims
+pub mod Steps

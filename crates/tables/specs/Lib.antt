@@ -1,9 +1,0 @@
-pub mod Answers
-pub mod Section
-pub mod Refusals
-pub mod Loop
-pub mod Pat
-pub mod Pmt
-pub mod Promises
-pub mod Claims
-pub mod Steps
