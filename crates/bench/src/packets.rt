@@ -1,0 +1,73 @@
+// A stream handed in packet by packet, round after round.
+use crate::stream;
+use driver::Handling;
+use driver::State;
+use packet::PACKET_BYTES;
+
+// What the packets brought in all: a reader sees by it that two builds did the same work.
+pub(crate) struct Sums {
+    pub(crate) packets: u64,
+    pub(crate) sections: u64,
+    pub(crate) bytes: u64,
+}
+
+// What goes from packet to packet.
+struct Run {
+    state: State,
+    sums: Sums,
+}
+
+// The sums with a packet's answer.
+fn with_answer(sums: Sums, answer: Handling) -> Sums {
+    let packets = std::num::wrapping_add_u64(sums.packets, 1);
+    match answer {
+        Handling::Wanted(report) => Sums {
+            packets,
+            sections: std::num::wrapping_add_u64(sums.sections, report.sections as u64),
+            bytes: std::num::wrapping_add_u64(sums.bytes, report.bytes as u64),
+        },
+        _ => Sums {
+            packets,
+            sections: sums.sections,
+            bytes: sums.bytes,
+        },
+    }
+}
+
+// All packets of the stream, one after the other.
+fn round(run: Run, packets: &[u8], store: &mut [u8], out: &mut [u8]) -> Run {
+    let mut state = run.state;
+    let mut sums = run.sums;
+    let mut at: usize = 0;
+    while PACKET_BYTES <= packets.len() - at {
+        let end = at + PACKET_BYTES;
+        let handled = driver::packet(state, &packets[at..end], store, out);
+        state = handled.state;
+        let answer = handled.answer;
+        sums = with_answer(sums, answer);
+        at = end;
+    }
+    Run { state, sums }
+}
+
+// The stream of a share handed in so many times.
+pub(crate) fn handed_in(state: State, share: u8, is_many: bool, rounds: u8) -> Sums {
+    let mut packets = stream::zeros();
+    stream::make(&mut packets, share, is_many);
+    let mut store = [0u8; driver::STORE_BYTES];
+    let mut out = [0u8; gather::LEAST_OUTPUT];
+    let mut run = Run {
+        state,
+        sums: Sums {
+            packets: 0,
+            sections: 0,
+            bytes: 0,
+        },
+    };
+    let mut left = rounds;
+    while 0 < left {
+        run = round(run, &packets, &mut store, &mut out);
+        left -= 1;
+    }
+    run.sums
+}
