@@ -19,10 +19,10 @@ fn use_one(state: State, pid: Pid) -> State {
     }
 }
 
-// 63 numbers used up, so that the next is equal modulo 64 to the last one that was given before.
-fn use_up(state: State, pid: Pid) -> State {
+// So many numbers used up.
+fn use_up(state: State, pid: Pid, count: u16) -> State {
     let mut now = state;
-    let mut left: u8 = 63;
+    let mut left = count;
     while 0 < left {
         now = use_one(now, pid);
         left -= 1;
@@ -30,12 +30,12 @@ fn use_up(state: State, pid: Pid) -> State {
     now
 }
 
-// A filter more, on the next of 8 PIDs.
+// A filter more, on the next of 8 PIDs; where the numbers are any, up to 250 are used up before the next.
 fn with_next(state: State, i: u16, is_any: bool) -> State {
     let opened = driver::open(state, Pid(FIRST_PID + i % 8));
     let next = opened.state;
     if is_any & (i < 31) {
-        return use_up(next, Pid(FIRST_PID));
+        return use_up(next, Pid(FIRST_PID), (i % 32 * 89 + 7) % 251);
     }
     next
 }

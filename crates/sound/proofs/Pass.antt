@@ -1,20 +1,20 @@
--- One pass over the filter places finds out what three clauses of soundness ask: the places are in range, the users are counted, and numbers of different classes differ.
+-- One pass over the filter places finds out what three clauses of soundness ask: the places are in range, the users are counted, and numbers differ, those of different classes without a comparison.
 -- Assumes nothing.
 use mathlib.Core.Path.{_≡_, refl, sym, _∙_, ap, ap₂}
-use mathlib.Core.Bool.{Bool, true, false, cond, not, _&&_, _||_, false≢true}
+use mathlib.Core.Bool.{Bool, true, false, cond, not, _&&_, false≢true}
 use mathlib.Core.List.{List, [], _∷_}
-use Prim.Native.Nat.{ℕ, zero, suc, _+_, _%_, _≤_, _<_, suc-le-suc, zero-le}
+use Prim.Native.Nat.{ℕ, zero, suc, _+_, _/_, _%_, _≤_, _<_, suc-le-suc, zero-le}
 use native.Mathlib.Nat.{mod-lt, zero-add, add-zero, add-suc, suc-add, not-suc-le-zero, le-of-suc-le-suc}
 use native.Mathlib.Numerals.{add-one}
 use native.Mathlib.Omega.{arith}
-use borrow.Author.Tests.{eq-eqb, ne-eqb, eqb-true, ltb-true, lt-ltb}
+use borrow.Author.Tests.{eq-eqb, ne-eqb, eqb-true, ltb-true, lt-ltb, not-true}
 use native.Mathlib.Decide.{ℕ-discrete, decLt}
 use lib.Dec.{eqb, ltb, lit<}
-use lib.ListN.{length, drop, getD, set, replicate, getD-replicate, length-set, drop-of-length-le, List·getD-eq-default}
-use lib.Seq.{drop-cons, getD-set-same, getD-set-other}
+use lib.ListN.{length, take, drop, getD, set, replicate, getD-replicate, length-set, drop-of-length-le, List·getD-eq-default}
+use lib.Seq.{length-take-le, getD-take, drop-cons, getD-set-same, getD-set-other}
 use Rattle.ground.specs.Walk.{all, apart, count}
-use Rattle.ground.proofs.Test.{both-true, true-both, neither}
-use Rattle.ground.proofs.Walk.{all-at, all-of, all-goes, all-ends, apart-of, total-turn, total-at, count-le}
+use Rattle.ground.proofs.Test.{both-true, true-both}
+use Rattle.ground.proofs.Walk.{all-at, all-of, all-goes, all-ends, apart-of, apart-at, total-turn, total-at, count-le}
 use Rattle.state.specs.State.{isOpen, isUsed, standsOn, freeArea, freeFilter}
 use Rattle.state.specs.declared.Area.{Area}
 use Rattle.state.specs.declared.Filter.{Filter}
@@ -104,14 +104,21 @@ apart-now met f g unmet marked = go (isOpen f) refl (ℕ-discrete (f .number) (g
         (false≢true
         (sym unmet
         ∙ true-both (isOpen g) _ (ap (λ (n : ℕ). not (eqb n 0)) (sym q) ∙ e)
-        (ap (λ (n : ℕ). not (eqb n 0)) (ap (λ (n : ℕ). getD met (n % 64) 0) (sym q) ∙ marked e))))
+        (ap (λ (n : ℕ). not (eqb n 0)) (ap (λ (n : ℕ). getD met ((n / 256 + n % 256) % 256) 0) (sym q) ∙ marked e))))
 
-pub met-turn : (filters : List Filter) (met : List ℕ) (i : ℕ) → length met ≡ 64 → isMet met (getD filters i freeFilter) ≡ false
-    → Met filters met i → Met filters (metIn met (getD filters i freeFilter)) (i + 1)
-met-turn filters met i long unmet m = record { marked = marks; differ = differs }
+-- so a filter whose class is not met is new, as one is that was compared with those before it
+abbrev IsNew : List Filter → ℕ → Type 0
+IsNew filters i = (j : ℕ) → j < i → sameNumber (getD filters j freeFilter) (getD filters i freeFilter) ≡ false
+
+unmet-new : (filters : List Filter) (met : List ℕ) (i : ℕ) → Met filters met i → isMet met (getD filters i freeFilter) ≡ false → IsNew filters i
+unmet-new filters met i m unmet j h = apart-now met (getD filters j freeFilter) (getD filters i freeFilter) unmet (m .marked j h)
+
+met-turn : (filters : List Filter) (met : List ℕ) (i : ℕ) → length met ≡ 256 → IsNew filters i → Met filters met i
+    → Met filters (metIn met (getD filters i freeFilter)) (i + 1)
+met-turn filters met i long new m = record { marked = marks; differ = differs }
   where
     room : (f : Filter) → classOf f < length met
-    room f = rw long (mod-lt (f .number) (lit< tt))
+    room f = rw long (mod-lt (f .number / 256 + f .number % 256) (lit< tt))
 
     marks : (j : ℕ) → j < i + 1 → isOpen (getD filters j freeFilter) ≡ true
         → getD (metIn met (getD filters i freeFilter)) (classOf (getD filters j freeFilter)) 0 ≡ 1
@@ -125,7 +132,7 @@ met-turn filters met i long unmet m = record { marked = marks; differ = differs 
     differs j k h b = go (ℕ-discrete k i)
       where
         go : Dec (k ≡ i) → sameNumber (getD filters j freeFilter) (getD filters k freeFilter) ≡ false
-        go (yes e) = rw e (apart-now met (getD filters j freeFilter) (getD filters i freeFilter) unmet (m .marked j (omega arith)))
+        go (yes e) = rw e (new j (omega arith))
         go (no n) = m .differ j k h (omega arith)
 
 -- ---- the three clauses
@@ -224,24 +231,58 @@ module _ (next : ℕ) (areas : List Area) (filters : List Filter) (long : length
       go true = refl
       go false = refl
 
-  pub clauses-apart : all (fitsPlace next) filters ≡ true → counted filters 0 areas ≡ true → clauses next areas filters ≡ apart sameNumber filters
-  clauses-apart r e = rw (places-sound next areas filters long e ∙ r, e) (go (apart sameNumber filters))
+  pub clauses-apart : apart sameNumber filters ≡ false → clauses next areas filters ≡ false
+  clauses-apart e = rw e (go (all (soundFilter next areas) filters))
     where
-      go : (b : Bool) → (b && true) ≡ b
+      go : (b : Bool) → ((b && false) && counted filters 0 areas) ≡ false
       go true = refl
       go false = refl
 
+  pub clauses-left : all (fitsPlace next) filters ≡ true → apart sameNumber filters ≡ true → clauses next areas filters ≡ counted filters 0 areas
+  clauses-left r e = go (counted filters 0 areas) refl
+    where
+      go : (b : Bool) → counted filters 0 areas ≡ b → clauses next areas filters ≡ b
+      go true q = rw (places-sound next areas filters long q ∙ r, e, q)
+      go false q = clauses-counted q
+
+-- ---- a filter compared with those before it
+module _ (filters : List Filter) (i : ℕ) (h : i < length filters) where
+  abbrev own : Filter
+  own = getD filters i freeFilter
+
+  abbrev differsFrom : Filter → Bool
+  differsFrom g = not (sameNumber g own)
+
+  first : length (take i filters) ≡ i
+  first = length-take-le i filters (omega arith)
+
+  pub compared-new : all differsFrom (take i filters) ≡ true → IsNew filters i
+  compared-new e j b =
+      not-true (sameNumber (getD filters j freeFilter) own)
+      (ap differsFrom (sym (getD-take i filters j freeFilter b)) ∙ all-at differsFrom (take i filters) freeFilter e j (rw first b))
+
+  pub compared-same : all differsFrom (take i filters) ≡ false → apart sameNumber filters ≡ false
+  compared-same e = go (apart sameNumber filters) refl
+    where
+      go : (b : Bool) → apart sameNumber filters ≡ b → b ≡ false
+      go false q = refl
+      go true q =
+          let each : (j : ℕ) → j < length (take i filters) → differsFrom (getD (take i filters) j freeFilter) ≡ true = λ j b.
+          let inside : j < i = rw first at b in
+          ap differsFrom (getD-take i filters j freeFilter inside) ∙ ap not (apart-at sameNumber filters freeFilter q j i inside h) in
+          sym (sym e ∙ all-of differsFrom (take i filters) freeFilter each)
+
 -- ---- the pass over the places
 -- what is known once i places are passed
-pub record Passed (next : ℕ) (filters : List Filter) (counts met : List ℕ) (alike : Bool) (i : ℕ) : Type 0 where
+pub record Passed (next : ℕ) (filters : List Filter) (counts met : List ℕ) (i : ℕ) : Type 0 where
   pub bound : i ≤ 32
   pub ranged : all (fitsPlace next) filters ≡ all (fitsPlace next) (drop i filters)
   pub eight : length counts ≡ 8
-  pub classes : length met ≡ 64
+  pub classes : length met ≡ 256
   pub tallied : (k : ℕ) → k < 8 → getD counts k 0 + count (standsOn k) (drop i filters) ≡ count (standsOn k) filters
-  pub unlike : alike ≡ false → Met filters met i
+  pub unlike : Met filters met i
 
-pub passed-none : (next : ℕ) (filters : List Filter) → Passed next filters (replicate 8 0) (replicate 64 0) false 0
+pub passed-none : (next : ℕ) (filters : List Filter) → Passed next filters (replicate 8 0) (replicate 256 0) 0
 passed-none next filters =
     record {
       bound = zero-le;
@@ -249,26 +290,35 @@ passed-none next filters =
       eight = refl;
       classes = refl;
       tallied = λ k h. rw (getD-replicate {A = ℕ} 8 k 0 0 h) (zero-add (count (standsOn k) filters));
-      unlike = λ e. met-none filters (replicate 64 0);
+      unlike = met-none filters (replicate 256 0);
     }
 
-module _ (next : ℕ) (filters : List Filter) (counts met : List ℕ) (alike : Bool) (i : ℕ) (long : length filters ≡ 32) (p : Passed next filters counts met alike i) where
-  pub passed-turn : i < 32 → fitsPlace next (getD filters i freeFilter) ≡ true
-      → Passed next filters (countedIn counts (getD filters i freeFilter)) (metIn met (getD filters i freeFilter)) (alike || isMet met (getD filters i freeFilter)) (i + 1)
-  passed-turn h fits =
+module _ (next : ℕ) (filters : List Filter) (counts met : List ℕ) (i : ℕ) (long : length filters ≡ 32) (p : Passed next filters counts met i) where
+  passed-turn : i < 32 → fitsPlace next (getD filters i freeFilter) ≡ true → IsNew filters i
+      → Passed next filters (countedIn counts (getD filters i freeFilter)) (metIn met (getD filters i freeFilter)) (i + 1)
+  passed-turn h fits new =
       record {
         bound = omega arith;
         ranged = all-goes (fitsPlace next) filters i (all (fitsPlace next) filters) (p .ranged) freeFilter here fits;
         eight = length-counted counts (getD filters i freeFilter) ∙ p .eight;
         classes = length-met met (getD filters i freeFilter) ∙ p .classes;
         tallied = λ k b. rw (add-one i) (counted-turn filters counts i k here (rw (p .eight) b) ∙ p .tallied k b);
-        unlike = λ e.
-            met-turn filters met i (p .classes) (neither alike (isMet met (getD filters i freeFilter)) e .1)
-            (p .unlike (neither alike (isMet met (getD filters i freeFilter)) e .0));
+        unlike = met-turn filters met i (p .classes) new (p .unlike);
       }
     where
       here : i < length filters
       here = rw long h
+
+  -- one place more, of a class that is not met
+  pub passed-unmet : i < 32 → fitsPlace next (getD filters i freeFilter) ≡ true → isMet met (getD filters i freeFilter) ≡ false
+      → Passed next filters (countedIn counts (getD filters i freeFilter)) (metIn met (getD filters i freeFilter)) (i + 1)
+  passed-unmet h fits unmet = passed-turn h fits (unmet-new filters met i (p .unlike) unmet)
+
+  -- and one that was compared with those before it
+  pub passed-compared : i < 32 → fitsPlace next (getD filters i freeFilter) ≡ true
+      → all (λ g. not (sameNumber g (getD filters i freeFilter))) (take i filters) ≡ true
+      → Passed next filters (countedIn counts (getD filters i freeFilter)) (metIn met (getD filters i freeFilter)) (i + 1)
+  passed-compared h fits e = passed-turn h fits (compared-new filters i (rw long h) e)
 
   -- there is room for one more at every area
   pub counts-small : (k : ℕ) → k < 8 → getD counts k 0 < 255
@@ -294,8 +344,8 @@ module _ (next : ℕ) (filters : List Filter) (counts met : List ℕ) (alike : B
             let none : count (standsOn k) (drop i filters) ≡ 0 = ap (count (standsOn k)) done in
             rw (zero-add k) (omega arith)
 
-    pub passed-apart : alike ≡ false → apart sameNumber filters ≡ true
-    passed-apart e = apart-of sameNumber filters freeFilter (λ j k h b. p .unlike e .differ j k h (omega arith))
+    pub passed-apart : apart sameNumber filters ≡ true
+    passed-apart = apart-of sameNumber filters freeFilter (λ j k h b. p .unlike .differ j k h (omega arith))
 
 -- users that are right at every area are counted
 counted-of : (filters : List Filter) (i : ℕ) (areas : List Area)

@@ -1,7 +1,7 @@
 -- What one pass over the filter places finds out, for the private functions that test soundness; no public promise cites it.
 use mathlib.Core.Bool.{Bool, true, cond, not, _&&_}
 use mathlib.Core.List.{List, [], _∷_}
-use Prim.Native.Nat.{ℕ, _+_, _%_}
+use Prim.Native.Nat.{ℕ, _+_, _/_, _%_}
 use lib.Dec.{ltb, eqb}
 use lib.ListN.{getD, set}
 use Rattle.state.specs.State.{isOpen}
@@ -16,9 +16,9 @@ fitsPlace next f = cond (isOpen f) (ltb (f .number) next && ltb (f .area) 8) (eq
 abbrev pub countedIn : List ℕ → Filter → List ℕ
 countedIn counts f = cond (isOpen f) (set counts (f .area) (getD counts (f .area) 0 + 1)) counts
 
--- numbers fall into 64 classes; two that are equal fall into one
+-- numbers fall into 256 classes; two that are equal fall into one, and neither 32 that follow each other nor 32 that are 64 or 256 apart do
 abbrev pub classOf : Filter → ℕ
-classOf f = f .number % 64
+classOf f = (f .number / 256 + f .number % 256) % 256
 
 abbrev pub metIn : List ℕ → Filter → List ℕ
 metIn met f = cond (isOpen f) (set met (classOf f) 1) met

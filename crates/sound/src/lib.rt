@@ -2,7 +2,7 @@
 ghost use mathlib.Core.Path.{_≡_};
 ghost use mathlib.Core.Bool.{not, true, _&&_};
 ghost use Prim.Native.Nat.{ℕ, _≤_, _<_};
-ghost use lib.ListN.{drop, getD};
+ghost use lib.ListN.{take, drop, getD};
 ghost use Rattle.ground.specs.Walk.{all, apart};
 ghost use Rattle.state.specs.State.{isOpen};
 ghost use Rattle.sound.specs.Sound.{soundArea, soundFilter, samePid, sameNumber, soundNext, counted};
@@ -96,30 +96,15 @@ fn same_number(f: Filter, g: Filter) -> bool
     (f.number != 0) & (f.number == g.number)
 }
 
-// Whether no filter from `from` on has the number of this one.
-fn is_single(own: Filter, filters: [Filter; PLACES], from: usize) -> bool
-    requires { ⌜ from ≤ 32 ⌝ }
-    ensures { λ r. ⌜ r ≡ all (λ g. not (sameNumber own g)) (drop from filters) ⌝ }
-{
-    let mut i: usize = from;
-    while i < PLACES {
-        let other = filters[i];
-        if same_number(own, other) {
-            return false;
-        }
-        i += 1;
-    }
-    true
-}
-
-// Whether open numbers differ, each compared with all that come after it.
-fn numbers_differ(filters: [Filter; PLACES]) -> bool
-    ensures { λ r. ⌜ r ≡ apart sameNumber filters ⌝ }
+// Whether no filter before a place has the number of this one.
+fn is_new(own: Filter, filters: [Filter; PLACES], place: usize) -> bool
+    requires { ⌜ place ≤ 32 ⌝ }
+    ensures { λ r. ⌜ r ≡ all (λ g. not (sameNumber g own)) (take place filters) ⌝ }
 {
     let mut i: usize = 0;
-    while i < PLACES {
-        let own = filters[i];
-        if !is_single(own, filters, i + 1) {
+    while i < place {
+        let other = filters[i];
+        if same_number(other, own) {
             return false;
         }
         i += 1;
@@ -139,7 +124,7 @@ fn fits_place(filter: Filter, next: u32) -> bool
 }
 
 // An open filter counted at its area and met in its class; whether its class was met before.
-fn tally(filter: Filter, counts: &mut [u8; 8], met: &mut [u8; 64]) -> bool
+fn tally(filter: Filter, counts: &mut [u8; 8], met: &mut [u8; 256]) -> bool
     requires { ⌜ (isOpen filter ≡ true → filter .area < 8) × ((k : ℕ) → k < 8 → getD (now counts) k 0 < 255) ⌝ }
     ensures { λ r. ⌜ (r ≡ isMet (now (met .entry)) filter)
         × (now (counts .exit) ≡ countedIn (now (counts .entry)) filter)
@@ -151,7 +136,7 @@ fn tally(filter: Filter, counts: &mut [u8; 8], met: &mut [u8; 64]) -> bool
     }
     let area = filter.area as usize;
     counts[area] = counts[area] + 1;
-    let class = (number % 64) as usize;
+    let class = ((number / 256 + number % 256) % 256) as usize;
     let before = met[class];
     met[class] = 1;
     before != 0
@@ -172,29 +157,26 @@ fn counts_agree(counts: [u8; AREAS], areas: [Area; AREAS]) -> bool
     true
 }
 
-// Whether the places, their numbers and the areas' user counts are sound: one pass, and a comparison of all pairs only where two numbers fall into one class.
+// Whether the places, their numbers and the areas' user counts are sound: one pass, in which only a filter whose class was met before is compared with those before it.
 fn places_are_sound(areas: [Area; AREAS], filters: [Filter; PLACES], next: u32) -> bool
     ensures { λ r. ⌜ r ≡ (all (soundFilter next areas) filters && apart sameNumber filters && counted filters 0 areas) ⌝ }
 {
     let mut counts = [0u8; AREAS];
-    let mut met = [0u8; 64];
-    let mut alike = false;
+    let mut met = [0u8; 256];
     let mut i: usize = 0;
     while i < PLACES {
         let filter = filters[i];
         if !fits_place(filter, next) {
             return false;
         }
-        alike = alike | tally(filter, &mut counts, &mut met);
+        if tally(filter, &mut counts, &mut met) {
+            if !is_new(filter, filters, i) {
+                return false;
+            }
+        }
         i += 1;
     }
-    if !counts_agree(counts, areas) {
-        return false;
-    }
-    if alike {
-        return numbers_differ(filters);
-    }
-    true
+    counts_agree(counts, areas)
 }
 
 // Whether the state is sound.

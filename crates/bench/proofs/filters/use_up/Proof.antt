@@ -6,10 +6,10 @@ use Rattle.bench.proofs.filters.use_up.Statement.{statement}
 use Rattle.bench.proofs.filters.use_up.Tie as tie
 
 abbrev Inv-loop : tie.InvT-loop
-Inv-loop pid now₀ left₀ now left = Unit {0}
+Inv-loop pid count now₀ left₀ now left = Unit {0}
 
 abbrev μ-loop : tie.MeasureT-loop
-μ-loop pid now₀ left₀ now left = left
+μ-loop pid count now₀ left₀ now left = left
 
 loop-holds : tie.Need-loop-holds Inv-loop μ-loop
 loop-holds c = tt
