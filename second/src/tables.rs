@@ -4,6 +4,9 @@ use crate::bytes::number_in;
 use crate::numbers_of_the_house::LONGEST_SECTION_LENGTH;
 use crate::refusal_numbers::{demand, Refusal};
 
+/// The most entries that a PAT can have.
+const MOST_PROGRAMS: usize = 253;
+
 /// The fields of bytes 3 to 7.
 #[derive(Clone, Copy, Debug, PartialEq, Eq)]
 pub struct Common {
@@ -98,6 +101,27 @@ pub fn read_program_table(section: &[u8]) -> Result<ProgramTable, Refusal> {
 pub fn program_entry(section: &[u8], index: usize) -> Result<(u64, u64), Refusal> {
     let table = read_program_table(section)?;
     table.entries.get(index).copied().ok_or(Refusal(27))
+}
+
+/// The whole table, where both lists have a place for each entry that a table can have.
+pub fn list_programs(section: &[u8], first: usize, second: usize) -> Result<ProgramTable, Refusal> {
+    demand(first.min(second) >= MOST_PROGRAMS, 3)?;
+    read_program_table(section)
+}
+
+/// The descriptor that stands at a place of the bytes.
+pub fn descriptor_at(bytes: &[u8], place: u64) -> Result<Descriptor, Refusal> {
+    let at = usize::try_from(place).unwrap_or(usize::MAX);
+    let rest = bytes.get(at..).unwrap_or(&[]);
+    match rest {
+        [] => Err(Refusal(27)),
+        [tag, size, own @ ..] if own.len() >= usize::from(*size) => Ok(Descriptor {
+            tag: *tag,
+            start: at + 2,
+            size: usize::from(*size),
+        }),
+        _ => Err(Refusal(26)),
+    }
 }
 
 pub fn read_stream_table(section: &[u8]) -> Result<StreamTable, Refusal> {

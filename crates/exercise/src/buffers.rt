@@ -16,6 +16,14 @@ pub(crate) type Output = [u8; 8192];
 // The outcomes that are not yet written out.
 pub(crate) type Text = [u8; 65536];
 
+// What is lent to calls that write a whole table.
+pub(crate) type Numbers = [u16; 256];
+
+// A list whose places all hold a mark.
+pub(crate) fn marked() -> Numbers {
+    [43_690; 256]
+}
+
 // The lesser of two numbers.
 pub(crate) fn least(a: usize, b: usize) -> usize
     ensures { λ r. ⌜ r ≤ b ⌝ }
@@ -30,6 +38,12 @@ pub(crate) fn least(a: usize, b: usize) -> usize
 pub(crate) fn first_mut(bytes: &mut [u8], size: usize) -> &mut [u8] {
     let n = least(size, bytes.len());
     &mut bytes[..n]
+}
+
+// The first places of a list, to be written.
+pub(crate) fn first_places(numbers: &mut [u16], size: usize) -> &mut [u16] {
+    let n = least(size, numbers.len());
+    &mut numbers[..n]
 }
 
 // The byte at a place, and 0 past the end.

@@ -107,3 +107,15 @@ pub(crate) fn digest(bytes: &[u8]) -> u64 {
     }
     d
 }
+
+// The digest of some numbers, each as its two bytes.
+pub(crate) fn digest_of_numbers(numbers: &[u16]) -> u64 {
+    let mut d: u64 = 1;
+    let mut i: usize = 0;
+    while i < numbers.len() {
+        let n = numbers[i];
+        d = digested(digested(d, (n / 256) as u8), (n % 256) as u8);
+        i += 1;
+    }
+    d
+}

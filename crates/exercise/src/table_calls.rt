@@ -1,4 +1,5 @@
 // The lines about sections of tables.
+use crate::buffers;
 use crate::line::Line;
 use crate::line::sixteen_bits;
 use crate::outcome;
@@ -23,8 +24,14 @@ pub(crate) fn answer(line: Line, bytes: &[u8], text: &mut [u8], at: usize) -> us
     if line.is(b"pmt", 0, true) {
         return pmt(bytes, text, at);
     }
+    if line.is(b"loop", 1, true) {
+        return next(bytes, n[0] as usize, text, at);
+    }
     if !line.within(65535, 65535) {
         return text::word(text, at, b"bad");
+    }
+    if line.is(b"programs", 2, true) & line.within(256, 256) {
+        return programs(bytes, first as usize, second as usize, text, at);
     }
     if line.is(b"patitem", 1, true) {
         return pat_item(bytes, first, text, at);
@@ -65,14 +72,37 @@ fn head_fields(head: Head, text: &mut [u8], at: usize) -> usize {
 // A section read as a PAT.
 fn pat(bytes: &[u8], text: &mut [u8], at: usize) -> usize {
     let end = text::word(text, at, b"pat");
-    let answer = tables::pat_header(bytes);
+    pat_fields(tables::pat_header(bytes), text, end)
+}
+
+// The header of a PAT, and how many entries there are.
+fn pat_fields(answer: PatHeader, text: &mut [u8], at: usize) -> usize {
     match answer {
-        PatHeader::Refused(n) => outcome::refused(text, end, n),
+        PatHeader::Refused(n) => outcome::refused(text, at, n),
         PatHeader::Header { head, entries } => {
-            let end = head_fields(head, text, end);
+            let end = head_fields(head, text, at);
             outcome::number(text, end, entries as u64)
         }
     }
+}
+
+// All entries of a PAT, written to the first places of two lists.
+fn programs(bytes: &[u8], first: usize, second: usize, text: &mut [u8], at: usize) -> usize {
+    let end = text::word(text, at, b"programs");
+    let mut programs = buffers::marked();
+    let mut pids = buffers::marked();
+    let answer = tables::pat_entries(
+        bytes,
+        buffers::first_places(&mut programs, first),
+        buffers::first_places(&mut pids, second),
+    );
+    let end = pat_fields(answer, text, end);
+    let end = outcome::word(text, end, b"lists");
+    let row = [
+        outcome::digest_of_numbers(&programs),
+        outcome::digest_of_numbers(&pids),
+    ];
+    outcome::numbers(text, end, &row)
 }
 
 // An entry of a PAT.
@@ -152,6 +182,19 @@ fn descriptor(found: PmtDescriptor, part: &[u8], text: &mut [u8], at: usize) -> 
                 outcome::digest(part),
             ];
             outcome::numbers(text, at, &row)
+        }
+    }
+}
+
+// The descriptor at a place of the bytes.
+fn next(bytes: &[u8], place: usize, text: &mut [u8], at: usize) -> usize {
+    let end = text::word(text, at, b"loop");
+    let found = tables::next_descriptor(bytes, place);
+    match found {
+        PmtDescriptor::Refused(n) => outcome::refused(text, end, n),
+        PmtDescriptor::Descriptor(place) => {
+            let row = [place.tag as u64, place.start as u64, place.size as u64];
+            outcome::numbers(text, end, &row)
         }
     }
 }

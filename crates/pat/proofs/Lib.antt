@@ -1,5 +1,7 @@
 pub mod Examples
 pub mod Programs
+pub mod Listed
 pub mod Passed
 pub mod Limits
+pub mod Whole
 pub mod Claims

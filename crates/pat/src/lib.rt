@@ -10,10 +10,15 @@ ghost use lib.ListN.{length};
 ghost use Rattle.psi.specs.Answers.{toldJudged};
 ghost use Rattle.psi.specs.Refusals.{verdictOf};
 ghost use Rattle.ground.specs.Answer.{given};
+ghost use Rattle.ground.specs.Write.{put};
 ghost use Rattle.pat.specs.Answers.{toldPatHeader, toldPatEntry};
 ghost use Rattle.pat.specs.Pat.{patOwn, patRefusals, patHeadingOf};
-ghost use Rattle.pat.specs.Promises.{ReadsPatHeader, ReadsPatEntry};
+ghost use Rattle.pat.specs.Listed.{programsOf, pidsOf};
+ghost use Rattle.pat.specs.Promises.{ReadsPatHeader, ReadsPatEntry, ListsPatEntries};
 ghost use Rattle.pat.specs.Steps.{patEntryIn};
+
+// A PAT has no more entries.
+pub const MOST_PROGRAMS: usize = 253;
 
 // An entry: a program and its PID.
 pub struct Program {
@@ -101,5 +106,41 @@ pub fn pat_entry(section: &[u8], index: u16) -> PatEntry
     match verdict {
         Judged::Refused(n) => PatEntry::Refused(n),
         Judged::Fine => entry_of(section, index),
+    }
+}
+
+// Writes the entries of a PAT that is not refused to the start of both lists.
+fn list_entries(section: &[u8], programs: &mut [u16], pids: &mut [u16])
+    requires { ⌜ (12 ≤ length (now section)) × (length (now section) ≤ 1024) × (253 ≤ length (now programs)) × (253 ≤ length (now pids)) ⌝ }
+    ensures { λ r. ⌜ (now (programs .exit) ≡ put (now (programs .entry)) 0 (programsOf (now (section .entry))))
+        × (now (pids .exit) ≡ put (now (pids .entry)) 0 (pidsOf (now (section .entry)))) ⌝ }
+{
+    let n = (section.len() - 12) / 4;
+    let mut i: usize = 0;
+    while i < n {
+        let place = 8 + 4 * i;
+        programs[i] = number_of_two(section[place], section[place + 1]);
+        pids[i] = number_of_two(section[place + 2], section[place + 3]) % 8192;
+        i += 1;
+    }
+}
+
+// The header of a section asked for as a PAT, and all its entries, written to the start of two lists of at least 253 places.
+pub fn pat_entries(section: &[u8], programs: &mut [u16], pids: &mut [u16]) -> PatHeader
+    ensures { λ r. ⌜ ListsPatEntries (now (section .entry)) (now (programs .entry)) (now (pids .entry)) (r, now (programs .exit), now (pids .exit)) ⌝ }
+{
+    if programs.len() < MOST_PROGRAMS {
+        return PatHeader::Refused(3);
+    }
+    if pids.len() < MOST_PROGRAMS {
+        return PatHeader::Refused(3);
+    }
+    let verdict = judge(section);
+    match verdict {
+        Judged::Refused(n) => PatHeader::Refused(n),
+        Judged::Fine => {
+            list_entries(section, programs, pids);
+            header_of(section)
+        }
     }
 }

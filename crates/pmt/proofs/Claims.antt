@@ -21,6 +21,7 @@ use Rattle.pmt.specs.declared.PmtDescriptor.the-variants as pmt-descript
 use Rattle.loops.proofs.Passed.{PmtPassed, pmt-passed}
 use Rattle.pmt.proofs.Limits.{pmt-limit, pmt-bytes}
 use Rattle.pmt.proofs.Placed.{part-inside, part-bytes}
+use Rattle.pmt.proofs.Next.{next-follows, next-ends, next-overruns}
 
 -- ---- the answer that says what was told, and that it is the answer
 abbrev madePmtHeader : Answer PmtHeading → PmtHeader
@@ -75,4 +76,9 @@ claims =
       pmtNumbers = numbers;
       partInside = part-inside;
       partBytes = part-bytes;
+      nextDescriptor = λ bytes at. determined-told toldPmtDescriptor madePmtDescriptor backPmtDescriptor (Pmt.nextOf bytes at);
+      nextExact = λ bytes at. exact (Pmt.nextRefusals bytes at) _;
+      nextFollows = next-follows;
+      nextEnds = next-ends;
+      nextOverruns = next-overruns;
     }

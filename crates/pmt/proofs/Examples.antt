@@ -1,4 +1,4 @@
--- A worked example, by computation: a PMT of two streams, one with two descriptors.
+-- A worked example, by computation: a PMT of two streams, one with two descriptors, and these walked by their places.
 -- Assumes nothing.
 use mathlib.Core.Path.{_≡_, refl}
 use mathlib.Core.Bool.{true}
@@ -8,7 +8,7 @@ use Rattle.ground.specs.Answer.{refused, given}
 use Rattle.crc.specs.Figure.{tick, decoder, right}
 use Rattle.loops.specs.Loop.{descriptorsOf, entriesOf}
 use Rattle.loops.specs.Body.{programOf, streamsOf}
-use Rattle.pmt.specs.Pmt.{pmtHeaderOf, pmtEntryOf, descriptorIn}
+use Rattle.pmt.specs.Pmt.{pmtHeaderOf, pmtEntryOf, descriptorIn, nextOf}
 
 -- program 1: the clock is on PID 0x0101, with a descriptor; video on 0x0101, and audio on 0x0102 with two descriptors
 abbrev pub pmt : List ℕ
@@ -35,3 +35,20 @@ pmt-audio-descriptor = refl
 pub pmt-none : descriptorIn pmt 1 0 ≡ refused 27
 unfolding tick decoder right programOf streamsOf descriptorsOf entriesOf
 pmt-none = refl
+
+-- ---- the audio stream's loop as a part of its own, from place to place
+abbrev loop : List ℕ
+loop = 0x0A ∷ 0x04 ∷ 0x65 ∷ 0x6E ∷ 0x67 ∷ 0x00 ∷ 0x52 ∷ 0x01 ∷ 0x07 ∷ []
+
+pub next-first : nextOf loop 0 ≡ given (record { tag = 0x0A; start = 2; size = 4 })
+next-first = refl
+
+pub next-second : nextOf loop 6 ≡ given (record { tag = 0x52; start = 8; size = 1 })
+next-second = refl
+
+pub next-end : nextOf loop 9 ≡ refused 27
+next-end = refl
+
+-- from a place inside a descriptor a length of 0x67 would be read
+pub next-over : nextOf loop 3 ≡ refused 26
+next-over = refl

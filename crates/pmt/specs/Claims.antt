@@ -3,18 +3,18 @@ use mathlib.Core.Path.{_≡_}
 use mathlib.Core.List.{List, _++_}
 use Prim.Native.Nat.{ℕ, _+_, _≤_}
 use lib.ListN.{length, take, drop}
-use Rattle.ground.specs.Answer.{given}
+use Rattle.ground.specs.Answer.{refused, given}
 use Rattle.ground.specs.Lent.{Lent}
 use Rattle.ground.specs.Outcome.{Determined}
 use Rattle.ground.specs.Refusal.{Exact}
-use Rattle.psi.specs.Loop.{joined}
+use Rattle.psi.specs.Loop.{filled, unfilled, onto, joined}
 use Rattle.pmt.specs.Answers.{PmtHeading, DescriptorPlace}
 use Rattle.psi.specs.Section.{before}
-use Rattle.loops.specs.Loop.{Entry}
+use Rattle.loops.specs.Loop.{Entry, descriptorsOf}
 use Rattle.loops.specs.Claims.{laidOut}
 use Rattle.loops.specs.Body.{programOf, streamsOf, pmtRefusals, descriptorAt}
-use Rattle.pmt.specs.Pmt.{pmtHeaderOf, pmtEntryRefusals, pmtEntryOf, descriptorRefusals, descriptorIn, descriptorStart, descriptorSize}
-use Rattle.pmt.specs.Promises.{ReadsPmtHeader, ReadsPmtEntry, FindsProgramDescriptor, FindsEntryDescriptor, GivesProgramDescriptorBytes, GivesEntryDescriptorBytes}
+use Rattle.pmt.specs.Pmt.{pmtHeaderOf, pmtEntryRefusals, pmtEntryOf, descriptorRefusals, descriptorIn, descriptorStart, descriptorSize, nextRefusals, nextOf}
+use Rattle.pmt.specs.Promises.{ReadsPmtHeader, ReadsPmtEntry, FindsProgramDescriptor, FindsEntryDescriptor, GivesProgramDescriptorBytes, GivesEntryDescriptorBytes, FindsNextDescriptor}
 
 -- an entry of a PMT laid out again, followed by its descriptors
 abbrev pub entryLaidOut : Entry → List ℕ
@@ -51,3 +51,14 @@ pub record Claims : Type 0 where
   -- where a descriptor is given, that part is its bytes
   pub partBytes : (s : List ℕ) (number i : ℕ) (p : DescriptorPlace) → descriptorIn s number i ≡ given p
       → take (p .size) (drop (p .start) s) ≡ descriptorAt s number i .bytes
+  -- any two outcomes that the promise of `next_descriptor` admits are equal
+  pub nextDescriptor : (bytes : List ℕ) (at : ℕ) → Determined (FindsNextDescriptor bytes at)
+  -- a descriptor by its place is refused, and by which number, exactly as its table says
+  pub nextExact : (bytes : List ℕ) (at : ℕ) → Exact (nextRefusals bytes at) (nextOf bytes at)
+  -- who goes on behind each descriptor that is given walks the loop: the descriptor is its next, and the rest of the loop stands behind it
+  pub nextFollows : (bytes : List ℕ) (at : ℕ) (p : DescriptorPlace) → nextOf bytes at ≡ given p
+      → descriptorsOf at (drop at bytes)
+      ≡ onto (record { at = at; tag = p .tag; bytes = take (p .size) (drop (p .start) bytes) }) (descriptorsOf (p .start + p .size) (drop (p .start + p .size) bytes))
+  -- 27 is the end of a loop that is filled, and 26 says that it is not
+  pub nextEnds : (bytes : List ℕ) (at : ℕ) → nextOf bytes at ≡ refused 27 → descriptorsOf at (drop at bytes) ≡ filled
+  pub nextOverruns : (bytes : List ℕ) (at : ℕ) → nextOf bytes at ≡ refused 26 → descriptorsOf at (drop at bytes) ≡ unfilled

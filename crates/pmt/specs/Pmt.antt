@@ -1,7 +1,7 @@
 -- What a PMT says (document 01, Tables): its header, its entries, its descriptors and their bytes.
 use mathlib.Core.List.{List, [], _∷_, _++_}
 use Prim.Native.Nat.{ℕ, _+_}
-use lib.Dec.{leb}
+use lib.Dec.{leb, ltb}
 use lib.ListN.{length}
 use Rattle.ground.specs.Answer.{Answer, refused, given}
 use Rattle.ground.specs.Lent.{Lent, part}
@@ -74,3 +74,17 @@ descriptorSize (refused n) = 0
 -- of the lent section, the part that an answer names
 abbrev pub partOf : Lent → Answer DescriptorPlace → Lent
 partOf l d = part l (descriptorStart (l .bytes) d) (descriptorSize d)
+
+-- ---- a descriptor by its place, in a part that is lent
+-- refusal 27, where no byte is left; refusal 26, where no tag and length are there, or the length overruns the part
+abbrev pub nextRefusals : List ℕ → ℕ → List Row
+nextRefusals bytes at =
+    (27 when leb (length bytes) at)
+    ∷ (26 when ltb (length bytes) (at + 2))
+    ∷ (26 when ltb (length bytes) (at + 2 + byteAt bytes (at + 1)))
+    ∷ []
+
+-- "Descriptors are tag, length, bytes": the one that stands at a place, or the first refusal that applies
+abbrev pub nextOf : List ℕ → ℕ → Answer DescriptorPlace
+nextOf bytes at =
+    judge refused (nextRefusals bytes at) (given (record { tag = byteAt bytes at; start = at + 2; size = byteAt bytes (at + 1) }))

@@ -4,7 +4,7 @@ use mathlib.Core.List.{List}
 use Prim.Native.Nat.{ℕ, _+_}
 use Rattle.ground.specs.Lent.{Lent}
 use Rattle.pmt.specs.Answers.{toldPmtHeader, toldPmtEntry, toldPmtDescriptor}
-use Rattle.pmt.specs.Pmt.{pmtHeaderOf, pmtEntryOf, descriptorIn, partOf}
+use Rattle.pmt.specs.Pmt.{pmtHeaderOf, pmtEntryOf, descriptorIn, partOf, nextOf}
 use Rattle.pmt.specs.declared.PmtHeader.{PmtHeader}
 use Rattle.pmt.specs.declared.PmtEntry.{PmtEntry}
 use Rattle.pmt.specs.declared.PmtDescriptor.{PmtDescriptor}
@@ -32,3 +32,7 @@ GivesProgramDescriptorBytes l i r = r ≡ partOf l (descriptorIn (l .bytes) 0 i)
 -- `entry_descriptor_bytes`
 abbrev pub GivesEntryDescriptorBytes : Lent → ℕ → ℕ → Lent → Type 0
 GivesEntryDescriptorBytes l e i r = r ≡ partOf l (descriptorIn (l .bytes) (e + 1) i)
+
+-- `next_descriptor`, of lent bytes and a place in them
+abbrev pub FindsNextDescriptor : List ℕ → ℕ → PmtDescriptor → Type 0
+FindsNextDescriptor bytes at r = toldPmtDescriptor r ≡ nextOf bytes at

@@ -19,6 +19,7 @@ ghost use Rattle.pmt.specs.Promises.{
   FindsEntryDescriptor,
   GivesProgramDescriptorBytes,
   GivesEntryDescriptorBytes,
+  FindsNextDescriptor,
 };
 ghost use Rattle.pmt.specs.Steps.{pmtHeadingAt, streamAt, descriptorPlaceAt};
 
@@ -228,4 +229,22 @@ pub fn entry_descriptor_bytes(section: &[u8], entry: u16, index: u16) -> &[u8]
 {
     let d = entry_descriptor(section, entry, index);
     bytes_of(section, d)
+}
+
+// The descriptor that stands at a place of a lent part, as of a descriptor loop; the next one stands where its bytes end.
+pub fn next_descriptor(part: &[u8], at: usize) -> PmtDescriptor
+    ensures { λ r. ⌜ FindsNextDescriptor (now (part .entry)) at r ⌝ }
+{
+    let size = part.len();
+    if size <= at {
+        return PmtDescriptor::Refused(27);
+    }
+    let left = size - at;
+    if left < 2 {
+        return PmtDescriptor::Refused(26);
+    }
+    if left - 2 < part[at + 1] as usize {
+        return PmtDescriptor::Refused(26);
+    }
+    descriptor_at(part, at)
 }

@@ -10,7 +10,7 @@ pub struct Call {
 }
 
 /// Each word with the highest value of each number, and whether bytes come last.
-pub const LINES: [(&str, &[u64], bool); 26] = [
+pub const LINES: [(&str, &[u64], bool); 28] = [
     ("fresh", &[], false),
     ("area", &[7, 65_535, 255, ANY, 1, 255], false),
     ("place", &[31, 65_535, 255], false),
@@ -25,10 +25,12 @@ pub const LINES: [(&str, &[u64], bool); 26] = [
     ("alone", &[], true),
     ("pat", &[], true),
     ("patitem", &[65_535], true),
+    ("programs", &[256, 256], true),
     ("pmt", &[], true),
     ("pmtitem", &[65_535], true),
     ("outer", &[65_535], true),
     ("inner", &[65_535, 65_535], true),
+    ("loop", &[ANY], true),
     ("crc", &[], true),
     ("pes", &[], true),
     ("stamp", &[255], true),

@@ -10,6 +10,15 @@ pub fn digest(bytes: &[u8]) -> u64 {
     })
 }
 
+/// Each number counts as its two bytes.
+pub fn digest_of_numbers(numbers: &[u64]) -> u64 {
+    let bytes: Vec<u8> = numbers
+        .iter()
+        .flat_map(|number| [(number / 256) as u8, (number % 256) as u8])
+        .collect();
+    digest(&bytes)
+}
+
 pub fn refused(refusal: Refusal) -> String {
     format!("refused {}", refusal.0)
 }

@@ -1,12 +1,16 @@
 //! The lines about sections of tables.
 
 use super::line::Call;
-use super::outcome::{digest, told};
+use super::outcome::{digest, digest_of_numbers, refused, told};
 use crate::refusal_numbers::Refusal;
 use crate::tables::{
-    cyclic_right, inner_descriptor, outer_descriptor, program_entry, read_program_table,
-    read_stream_table, stream_entry, Common, Descriptor,
+    cyclic_right, descriptor_at, inner_descriptor, list_programs, outer_descriptor, program_entry,
+    read_program_table, read_stream_table, stream_entry, Common, Descriptor,
 };
+
+/// How many places a line's lists have, and what each holds before the call.
+const LIST: usize = 256;
+const MARK: u64 = 43_690;
 
 /// The outcome behind the word, or nothing where the word is none of these.
 pub fn answer(call: &Call) -> Option<String> {
@@ -21,6 +25,7 @@ pub fn answer(call: &Call) -> Option<String> {
         "patitem" => told(program_entry(section, index(0)), |(program, pid)| {
             format!("{} {}", program, pid)
         }),
+        "programs" => programs(section, index(0), index(1)),
         "pmt" => told(read_stream_table(section), |table| {
             let (descriptors, streams) = (table.descriptors.len(), table.streams.len());
             let common = common(&table.common);
@@ -32,9 +37,32 @@ pub fn answer(call: &Call) -> Option<String> {
         }),
         "outer" => descriptor(section, outer_descriptor(section, index(0))),
         "inner" => descriptor(section, inner_descriptor(section, index(0), index(1))),
+        "loop" => told(descriptor_at(section, call.numbers[0]), |descriptor| {
+            format!(
+                "{} {} {}",
+                descriptor.tag, descriptor.start, descriptor.size
+            )
+        }),
         _ => return None,
     };
     Some(outcome)
+}
+
+/// Both lists are told whole, whatever was lent of them.
+fn programs(section: &[u8], first: usize, second: usize) -> String {
+    let mut lists = [vec![MARK; LIST], vec![MARK; LIST]];
+    let outcome = match list_programs(section, first, second) {
+        Ok(table) => {
+            for (place, (program, pid)) in table.entries.iter().enumerate() {
+                lists[0][place] = *program;
+                lists[1][place] = *pid;
+            }
+            format!("{} {}", common(&table.common), table.entries.len())
+        }
+        Err(refusal) => refused(refusal),
+    };
+    let digests = lists.map(|list| digest_of_numbers(&list));
+    format!("{} lists {} {}", outcome, digests[0], digests[1])
 }
 
 fn common(common: &Common) -> String {

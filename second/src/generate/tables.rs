@@ -15,6 +15,9 @@ pub fn generate(random: &mut Random, script: &mut Script) {
     let table = some_program_table(random);
     let index = some_index(random, table.entries.len());
     script.call_with(&format!("patitem {}", index), &table.bytes);
+    let table = some_program_table(random);
+    let lists = format!("{} {}", some_list(random), some_list(random));
+    script.call_with(&format!("programs {}", lists), &table.bytes);
     let table = some_stream_table(random);
     script.call_with("pmt", &table.bytes);
     let table = some_stream_table(random);
@@ -29,8 +32,32 @@ pub fn generate(random: &mut Random, script: &mut Script) {
     let index = some_index(random, inner);
     let bytes = field(&table.bytes);
     script.call(&format!("inner {} {} {}", entry, index, bytes));
+    let table = some_stream_table(random);
+    let (from, at) = some_loop_place(random, &table);
+    script.call_with(&format!("loop {}", at), &table.bytes[from..]);
     let bytes = cyclic_bytes(random);
     script.call_with("crc", &bytes);
+}
+
+/// How many places of a list are lent: mostly enough, with the bound and the one below it among them.
+fn some_list(random: &mut Random) -> usize {
+    match random.below(16) {
+        0 => 252,
+        1 => random.below(253),
+        2 | 3 => 256,
+        _ => 253,
+    }
+}
+
+/// Where a part of the section starts, and a place in it: mostly a descriptor's, the end and places past it among them.
+fn some_loop_place(random: &mut Random, table: &Built) -> (usize, usize) {
+    let size = table.bytes.len();
+    if table.descriptor_lengths.is_empty() || random.one_in(4) {
+        return (0, random.pick(&[0, size, size + 1, size.saturating_sub(1)]));
+    }
+    let tag = random.pick(&table.descriptor_lengths) - 1;
+    let from = random.below(tag.min(size) + 1);
+    (from, tag - from)
 }
 
 /// An index that mostly exists, with the last one and the one behind it among them.

@@ -3,8 +3,9 @@
 use super::outcome;
 use crate::refusal_numbers::Refusal;
 use crate::tables::{
-    cyclic_register, cyclic_right, inner_descriptor, outer_descriptor, program_entry,
-    read_program_table, read_stream_table, stream_entry, Descriptor,
+    cyclic_register, cyclic_right, descriptor_at, inner_descriptor, list_programs,
+    outer_descriptor, program_entry, read_program_table, read_stream_table, stream_entry,
+    Descriptor,
 };
 
 const PAT: [u8; 16] = [
@@ -44,6 +45,26 @@ fn the_known_program_table() {
     assert_eq!(table.entries, [(1, 0x1000)]);
     assert_eq!(program_entry(&PAT, 0), Ok((1, 0x1000)));
     assert_eq!(program_entry(&PAT, 1), Err(Refusal(27)));
+}
+
+#[test]
+fn lists_are_judged_before_the_section() {
+    assert_eq!(list_programs(&PAT, 253, 253), read_program_table(&PAT));
+    assert_eq!(list_programs(&PAT, 252, 253), Err(Refusal(3)));
+    assert_eq!(list_programs(&[], 253, 252), Err(Refusal(3)));
+    assert_eq!(list_programs(&[], 253, 253), Err(Refusal(20)));
+}
+
+#[test]
+fn a_loop_is_walked_by_its_places() {
+    let bytes = [0x0A, 0x03, 0x64, 0x65, 0x75, 0x52, 0x00];
+    let found = |place| descriptor_at(&bytes, place).map(|d| (d.tag, d.start, d.size));
+    assert_eq!(found(0), Ok((0x0A, 2, 3)));
+    assert_eq!(found(5), Ok((0x52, 7, 0)));
+    assert_eq!(found(7), Err(Refusal(27)));
+    assert_eq!(found(u64::MAX), Err(Refusal(27)));
+    assert_eq!(found(6), Err(Refusal(26)));
+    assert_eq!(found(1), Err(Refusal(26)));
 }
 
 #[test]
