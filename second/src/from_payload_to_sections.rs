@@ -95,8 +95,8 @@ fn take_payload(
 ) -> Gathered {
     let record = &mut state.areas[area];
     let step = (16 + reading.counter - record.counter) % 16;
-    answer.repeat = record.seen && step == 0;
-    answer.jump = record.seen && step > 1;
+    answer.repeat = record.has_seen() && step == 0;
+    answer.jump = record.has_seen() && step > 1;
     let mut gathered = Gathered::default();
     if answer.repeat {
         gathered.held = held;
@@ -113,9 +113,9 @@ fn take_payload(
     } else {
         continue_section(&mut gathered, held, payload);
     }
-    record.seen = true;
+    record.seen = 1;
     record.counter = reading.counter;
-    record.held = gathered.held.len() as u64;
+    record.held = gathered.held.len() as u16;
     gathered
 }
 

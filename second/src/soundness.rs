@@ -5,7 +5,7 @@ use crate::state::{Area, Place, State};
 
 pub type Clause = fn(&State) -> bool;
 
-pub const CLAUSES: [Clause; 11] = [
+pub const CLAUSES: [Clause; 12] = [
     used_areas_have_different_pids,
     used_areas_have_pids_for_filters,
     user_counts_are_the_open_filters,
@@ -15,6 +15,7 @@ pub const CLAUSES: [Clause; 11] = [
     held_bytes_are_below_a_whole_area,
     areas_without_counter_hold_nothing,
     areas_with_counter_have_four_bits,
+    marks_of_a_counter_are_0_or_1,
     open_filters_stand_on_used_areas,
     free_records_are_zero,
 ];
@@ -67,17 +68,23 @@ pub fn the_next_number_is_in_range(state: &State) -> bool {
 }
 
 pub fn held_bytes_are_below_a_whole_area(state: &State) -> bool {
-    let whole = AREA_BYTES as u64;
-    state.areas.iter().all(|area| area.held < whole)
+    state
+        .areas
+        .iter()
+        .all(|area| usize::from(area.held) < AREA_BYTES)
 }
 
 pub fn areas_without_counter_hold_nothing(state: &State) -> bool {
-    let mut unseen = state.areas.iter().filter(|area| !area.seen);
+    let mut unseen = state.areas.iter().filter(|area| !area.has_seen());
     unseen.all(|area| area.held == 0 && area.counter == 0)
 }
 
 pub fn areas_with_counter_have_four_bits(state: &State) -> bool {
-    used(state).all(|area| !area.seen || area.counter <= 15)
+    used(state).all(|area| !area.has_seen() || area.counter <= 15)
+}
+
+pub fn marks_of_a_counter_are_0_or_1(state: &State) -> bool {
+    used(state).all(|area| area.seen <= 1)
 }
 
 pub fn open_filters_stand_on_used_areas(state: &State) -> bool {

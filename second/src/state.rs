@@ -6,14 +6,19 @@ use crate::numbers_of_the_house::{AREAS, PLACES};
 pub struct Area {
     pub pid: u16,
     pub users: u8,
-    pub held: u64,
-    pub seen: bool,
+    pub held: u16,
+    pub seen: u8,
     pub counter: u8,
 }
 
 impl Area {
     pub fn used(&self) -> bool {
         self.users != 0
+    }
+
+    /// Whether the record says that a counter was seen.
+    pub fn has_seen(&self) -> bool {
+        self.seen != 0
     }
 }
 

@@ -30,25 +30,36 @@ fn use_up(state: State, pid: Pid, count: u16) -> State {
     now
 }
 
-// A filter more, on the next of 8 PIDs; where the numbers are any, up to 250 are used up before the next.
-fn with_next(state: State, i: u16, is_any: bool) -> State {
+// How many numbers are used up before the next filter, by the scenario's letter: none, any up to 250, or so many that the numbers are 256 apart.
+fn between(numbers: u8, i: u16) -> u16 {
+    if numbers == b'a' {
+        return (i % 32 * 89 + 7) % 251;
+    }
+    if numbers == b'w' {
+        return 255;
+    }
+    0
+}
+
+// A filter more, on the next of 8 PIDs.
+fn with_next(state: State, i: u16, numbers: u8) -> State {
     let opened = driver::open(state, Pid(FIRST_PID + i % 8));
     let next = opened.state;
-    if is_any & (i < 31) {
-        return use_up(next, Pid(FIRST_PID), (i % 32 * 89 + 7) % 251);
+    if i < 31 {
+        return use_up(next, Pid(FIRST_PID), between(numbers, i));
     }
     next
 }
 
-// A state with the filters open, their numbers one behind the other or any.
-pub(crate) fn opened(is_many: bool, is_any: bool) -> State {
+// A state with the filters open, and with the numbers that the letter says.
+pub(crate) fn opened(is_many: bool, numbers: u8) -> State {
     if !is_many {
-        return with_next(driver::fresh(), 0, is_any);
+        return with_next(driver::fresh(), 0, numbers);
     }
     let mut state = driver::fresh();
     let mut i: u16 = 0;
     while i < 32 {
-        state = with_next(state, i, is_any);
+        state = with_next(state, i, numbers);
         i += 1;
     }
     state

@@ -39,7 +39,7 @@ fn is_scenario(l: Letters) -> bool {
         & (b'0' <= l[1])
         & (l[1] <= b'2')
         & ((l[2] == b'1') | (l[2] == b'3'))
-        & ((l[3] == b'n') | (l[3] == b'a'))
+        & ((l[3] == b'n') | (l[3] == b'a') | (l[3] == b'w'))
         & (b'0' <= l[4])
         & (l[4] <= b'9')
         & ((l[5] == b'\n') | (l[5] == 0))
@@ -54,11 +54,12 @@ fn told(text: &mut [u8], at: usize, word: &[u8], n: u64) -> usize {
 // The packets of a scenario handed in, and what they brought in all.
 fn tell_packets(l: Letters, text: &mut [u8]) -> usize {
     let is_many = l[2] == b'3';
-    let state = filters::opened(is_many, l[3] == b'a');
+    let state = filters::opened(is_many, l[3]);
     let sums = packets::handed_in(state, l[1], is_many, l[4] % 16);
     let end = told(text, 0, b"packets ", sums.packets);
     let end = told(text, end, b" sections ", sums.sections);
     let end = told(text, end, b" bytes ", sums.bytes);
+    let end = told(text, end, b" sets ", sums.sets);
     text::byte(text, end, b'\n')
 }
 
@@ -97,7 +98,7 @@ fn main() {
     } else {
         io::write_all(
             STDERR_FILENO,
-            b"usage: bench, and five letters on standard input: one of p c a m, of 0 1 2, of 1 3, of n a, and a digit\n",
+            b"usage: bench, and five letters on standard input: one of p c a m, of 0 1 2, of 1 3, of n a w, and a digit\n",
         );
     }
 }

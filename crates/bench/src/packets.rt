@@ -9,6 +9,7 @@ pub(crate) struct Sums {
     pub(crate) packets: u64,
     pub(crate) sections: u64,
     pub(crate) bytes: u64,
+    pub(crate) sets: u64,
 }
 
 // What goes from packet to packet.
@@ -25,11 +26,13 @@ fn with_answer(sums: Sums, answer: Handling) -> Sums {
             packets,
             sections: std::num::wrapping_add_u64(sums.sections, report.sections as u64),
             bytes: std::num::wrapping_add_u64(sums.bytes, report.bytes as u64),
+            sets: std::num::wrapping_add_u64(sums.sets, report.places as u64),
         },
         _ => Sums {
             packets,
             sections: sums.sections,
             bytes: sums.bytes,
+            sets: sums.sets,
         },
     }
 }
@@ -62,6 +65,7 @@ pub(crate) fn handed_in(state: State, share: u8, is_many: bool, rounds: u8) -> S
             packets: 0,
             sections: 0,
             bytes: 0,
+            sets: 0,
         },
     };
     let mut left = rounds;

@@ -63,7 +63,7 @@ fn without_user(area: Area) -> Area
             users: 0,
             marks: Marks {
                 held: 0,
-                seen: false,
+                seen: 0,
                 counter: 0,
             },
         };

@@ -49,7 +49,7 @@ Right lastByteHeld =
       answer = given (record { wanted = true; sections = 0; bytes = 0; places = 1; jump = false; repeat = false; givenUp = 0 });
       state =
           record {
-            areas = set (zeroOpen .areas) 0 (record { pid = record { 0 = 0 }; users = 1; marks = record { held = 1; seen = true; counter = 0 } });
+            areas = set (zeroOpen .areas) 0 (record { pid = record { 0 = 0 }; users = 1; marks = record { held = 1; seen = 1; counter = 0 } });
             filters = zeroOpen .filters;
             next = zeroOpen .next;
           };

@@ -47,7 +47,12 @@ fn print_places(text: &mut [u8], at: usize, state: State) -> usize {
 fn print_area(text: &mut [u8], at: usize, i: usize, area: Area) -> usize {
     let marks = area.marks;
     let pid = area.pid;
-    if (pid.0 == 0) & (area.users == 0) & (marks.held == 0) & !marks.seen & (marks.counter == 0) {
+    if (pid.0 == 0)
+        & (area.users == 0)
+        & (marks.held == 0)
+        & (marks.seen == 0)
+        & (marks.counter == 0)
+    {
         return at;
     }
     let end = outcome::word(text, at, b"area");
@@ -56,7 +61,7 @@ fn print_area(text: &mut [u8], at: usize, i: usize, area: Area) -> usize {
         pid.0 as u64,
         area.users as u64,
         marks.held as u64,
-        outcome::yes(marks.seen),
+        marks.seen as u64,
         marks.counter as u64,
     ];
     outcome::numbers(text, end, &row)
@@ -81,8 +86,8 @@ pub(crate) fn with_area(state: State, numbers: [u64; 6]) -> State {
         return state;
     }
     let marks = Marks {
-        held: numbers[3] as usize,
-        seen: numbers[4] == 1,
+        held: sixteen_bits(numbers[3]),
+        seen: eight_bits(numbers[4]),
         counter: eight_bits(numbers[5]),
     };
     areas[i] = Area {
@@ -113,7 +118,7 @@ pub(crate) fn with_place(state: State, numbers: [u64; 6]) -> State {
 // Whether an area's numbers are in their ranges.
 pub(crate) fn is_area(line: Line) -> bool {
     let n = line.numbers;
-    (n[0] < 8) & (n[1] < 65536) & (n[2] < 256) & (n[4] < 2) & (n[5] < 256)
+    (n[0] < 8) & (n[1] < 65536) & (n[2] < 256) & (n[3] < 65536) & (n[4] < 256) & (n[5] < 256)
 }
 
 // Whether a place's numbers are in their ranges.

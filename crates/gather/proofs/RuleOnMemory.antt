@@ -1,13 +1,13 @@
 -- The rule on memory: what a packet that changes nothing answers, and what one that is taken does.
 -- Assumes nothing.
 use mathlib.Core.Path.{_≡_, refl, sym, _∙_, ap, ap₂}
-use mathlib.Core.Bool.{Bool, true, false, cond, _&&_, not, false≢true}
+use mathlib.Core.Bool.{Bool, true, false, cond, _&&_, not}
 use mathlib.Core.List.{List, _++_, append-nil}
-use Prim.Native.Nat.{ℕ, _+_, _-_, _%_, _≤_, min}
+use Prim.Native.Nat.{ℕ, zero, suc, _+_, _-_, _%_, _≤_, min}
 use native.Mathlib.Omega.{arith}
 use lib.Dec.{eqb, leb}
-use lib.ListN.{length}
-use borrow.Author.Tests.{leb-true, eqb-true, eq-eqb, ne-eqb}
+use lib.ListN.{length, length-drop}
+use borrow.Author.Tests.{leb-true, eqb-true, eqb-false, eq-eqb, ne-eqb}
 use Rattle.ground.proofs.Write.{put-nil, put-same}
 use Rattle.ground.proofs.Test.{both-true}
 use Rattle.ground.proofs.Part.{length-part, part-least}
@@ -16,53 +16,63 @@ use Rattle.gather.specs.declared.Marks.{Marks}
 use Rattle.ground.specs.Answer.{given}
 use Rattle.gather.specs.declared.measure.Sizes.{Sizes}
 use Rattle.gather.specs.Kind.{classify}
-use Rattle.gather.specs.Rule.{Yield, State, Packet, started, yield, front, back, changed, unchanged, kept, lost, repeats, jumps, rule}
-use Rattle.gather.specs.Memory.{soundMarks, lastOf, isSeen, counterOf, marksOf, stateOf, stretch, toldGathered, leaves, onMemory, contradictsOf}
+use Rattle.gather.specs.Rule.{Last, unseen, seen, Yield, State, Packet, started, yield, front, back, changed, unchanged, kept, lost, repeats, jumps, rule}
+use Rattle.gather.specs.Memory.{soundMarks, lastOf, seenOf, counterOf, marksOf, stateOf, stretch, toldGathered, leaves, onMemory, contradictsOf}
 use Rattle.gather.specs.Steps.{isPart, Carried, carried, carriedAs, unchangedOf, changedOf, unfinishedOf, Room}
 use Rattle.gather.proofs.Classes.{contradicting-kind}
-use Rattle.gather.proofs.Walk.{walk-fine}
-use Rattle.gather.proofs.Adding.{add-fine}
+use Rattle.gather.proofs.Walk.{walk-fine, walk-split}
+use Rattle.gather.proofs.Adding.{add-fine, add-split}
 use Rattle.gather.proofs.OnMemory.{unfinished-le}
 
 -- what sound marks say
 pub record SoundMarks (m : Marks) : Type 0 where
   pub held : m .held ≤ 4095
   pub counter : m .counter ≤ 15
-  pub fresh : m .seen ≡ false → m .counter ≡ 0
-  pub empty : m .seen ≡ false → m .held ≡ 0
+  pub mark : m .seen ≤ 1
+  pub fresh : m .seen ≡ 0 → m .counter ≡ 0
+  pub empty : m .seen ≡ 0 → m .held ≡ 0
 
 pub sound-says : (m : Marks) → soundMarks m ≡ true → SoundMarks m
-sound-says m e = go (m .seen) refl e
+sound-says m e = go (eqb (m .seen) 0) refl e
   where
-    go : (b : Bool) → m .seen ≡ b → cond b (leb (m .held) 4095 && leb (m .counter) 15) (eqb (m .held) 0 && eqb (m .counter) 0) ≡ true → SoundMarks m
+    go : (b : Bool) → eqb (m .seen) 0 ≡ b → cond b (eqb (m .held) 0 && eqb (m .counter) 0) (eqb (m .seen) 1 && leb (m .held) 4095 && leb (m .counter) 15) ≡ true
+        → SoundMarks m
     go true s e =
-        let p = both-true (leb (m .held) 4095) (leb (m .counter) 15) e in
-        record {
-          held = leb-true (m .held) 4095 (p .0);
-          counter = leb-true (m .counter) 15 (p .1);
-          fresh = λ f. absurd (false≢true (sym f ∙ s));
-          empty = λ f. absurd (false≢true (sym f ∙ s));
-        }
-    go false s e =
         let p = both-true (eqb (m .held) 0) (eqb (m .counter) 0) e in
+        let z = eqb-true (m .seen) 0 s in
         let h = eqb-true (m .held) 0 (p .0) in
         let k = eqb-true (m .counter) 0 (p .1) in
-        record { held = omega arith; counter = omega arith; fresh = λ f. k; empty = λ f. h }
+        record { held = omega arith; counter = omega arith; mark = omega arith; fresh = λ f. k; empty = λ f. h }
+    go false s e =
+        let p = both-true (eqb (m .seen) 1 && leb (m .held) 4095) (leb (m .counter) 15) e in
+        let q = both-true (eqb (m .seen) 1) (leb (m .held) 4095) (p .0) in
+        let one = eqb-true (m .seen) 1 (q .0) in
+        record {
+          held = leb-true (m .held) 4095 (q .1);
+          counter = leb-true (m .counter) 15 (p .1);
+          mark = omega arith;
+          fresh = λ f. absurd (eqb-false (m .seen) 0 s f);
+          empty = λ f. absurd (eqb-false (m .seen) 0 s f);
+        }
 
 -- sound marks are the marks of what they remember
 pub marks-again : (m : Marks) (store : List ℕ) (base : ℕ) → soundMarks m ≡ true → base + 4096 ≤ length store → marksOf (stateOf m store base) ≡ m
 marks-again m store base s f =
     let w = sound-says m s in
     let size : length (stretch (m .held) store base) ≡ m .held = length-part (m .held) store base (omega (arith, w)) in
-    rw size (ap₂ (λ (b : Bool) (k : ℕ). record { held = m .held; seen = b; counter = k }) (seen-is (m .seen) (m .counter)) (counter-is (m .seen) (m .counter) (w .fresh)))
+    rw size (ap₂ (λ (n k : ℕ). record { held = m .held; seen = n; counter = k }) (seen-is (m .seen) (m .counter) (w .mark)) (counter-is (m .seen) (m .counter) (w .fresh)))
   where
-    seen-is : (b : Bool) (k : ℕ) → isSeen (lastOf b k) ≡ b
-    seen-is true k = refl
-    seen-is false k = refl
+    seen-is : (n k : ℕ) → n ≤ 1 → seenOf (lastOf n k) ≡ n
+    seen-is zero k h = refl
+    seen-is (suc zero) k h = refl
+    seen-is (suc (suc n)) k h = absurd (omega arith)
 
-    counter-is : (b : Bool) (k : ℕ) → (b ≡ false → k ≡ 0) → counterOf (lastOf b k) ≡ k
-    counter-is true k h = refl
-    counter-is false k h = sym (h refl)
+    counter-is : (n k : ℕ) → (n ≡ 0 → k ≡ 0) → counterOf (lastOf n k) ≡ k
+    counter-is n k h = go (eqb n 0) refl
+      where
+        go : (b : Bool) → eqb n 0 ≡ b → counterOf (cond b unseen (seen k)) ≡ k
+        go true e = sym (h (eqb-true n 0 e))
+        go false e = refl
 
 module _ (m : Marks) (store : List ℕ) (base : ℕ) (out : List ℕ) (s : soundMarks m ≡ true) (area : base + 4096 ≤ length store) where
   -- a packet without payload or a repeat writes nothing
@@ -104,6 +114,15 @@ yield-two held true payload =
     omega arith
 yield-two held false payload = let f = add-fine held payload .one in omega arith
 
+-- what a payload leaves to be held is less than an area
+pub yield-short : (held : List ℕ) (start : Bool) (payload : List ℕ) → length payload ≤ 184 → length (yield held start payload .held) ≤ 4095
+unfolding started
+yield-short held true payload h =
+    let w = walk-split (back payload) .fits in
+    let d : length (back payload) ≤ length payload = simp length-drop (omega arith) in
+    omega arith
+yield-short held false payload h = add-split held payload .bound
+
 -- held bytes after a jump
 pub kept-part : (jump : Bool) (n : ℕ) (store : List ℕ) (base : ℕ) → stretch (cond jump 0 n) store base ≡ kept jump (stretch n store base)
 kept-part true n store base = refl
@@ -118,13 +137,19 @@ lost-le true n = unfinished-le n
 lost-le false n = omega arith
 
 -- ---- the tests of the counter, as the code has them
-pub repeats-is : (b : Bool) (l counter : ℕ) → (b && eqb counter l) ≡ repeats (lastOf b l) counter
-repeats-is true l counter = refl
-repeats-is false l counter = refl
+pub repeats-is : (n l counter : ℕ) → (not (eqb n 0) && eqb counter l) ≡ repeats (lastOf n l) counter
+repeats-is n l counter = go (eqb n 0)
+  where
+    go : (b : Bool) → (not b && eqb counter l) ≡ repeats (cond b unseen (seen l)) counter
+    go true = refl
+    go false = refl
 
-pub jumps-is : (b : Bool) (l counter : ℕ) → (b && (not (eqb counter l) && not (eqb counter ((l + 1) % 16)))) ≡ jumps (lastOf b l) counter
-jumps-is true l counter = refl
-jumps-is false l counter = refl
+pub jumps-is : (n l counter : ℕ) → (not (eqb n 0) && (not (eqb counter l) && not (eqb counter ((l + 1) % 16)))) ≡ jumps (lastOf n l) counter
+jumps-is n l counter = go (eqb n 0)
+  where
+    go : (b : Bool) → (not b && (not (eqb counter l) && not (eqb counter ((l + 1) % 16)))) ≡ jumps (cond b unseen (seen l)) counter
+    go true = refl
+    go false = refl
 
 -- ---- a packet that is taken, whole
 module _ (m : Marks) (counter : ℕ) (start : Bool) (payload store : List ℕ) (base : ℕ) (out : List ℕ) (room : Room (m .held) payload store base out) where

@@ -15,7 +15,7 @@ use Rattle.ground.specs.Answer.{refused}
 use Rattle.ground.specs.Walk.{Every}
 use Rattle.gather.specs.Kind.{join, cut}
 use Rattle.gather.specs.Rule.{Last, unseen, seen, State, Packet, rule}
-use Rattle.gather.specs.Memory.{soundMarks, lastOf, isSeen, counterOf, marksOf, stateOf, contradictsOf, gatherRefusals, gatherOf, onMemory, leaves}
+use Rattle.gather.specs.Memory.{soundMarks, lastOf, seenOf, counterOf, marksOf, stateOf, contradictsOf, gatherRefusals, gatherOf, onMemory, leaves}
 use Rattle.gather.specs.Steps.{Room}
 use Rattle.gather.proofs.RuleOnMemory.{sound-says, marks-again}
 use Rattle.gather.specs.Claims.{IsWhole}
@@ -48,7 +48,7 @@ pub house : (m : Marks) (payload store : List ℕ) (i : ℕ) (out : List ℕ) �
 house m payload store i out s l h p o = record { bound = sound-says m s .held; short = p; area = omega arith; output = o }
 
 -- a last counter is read back from its marks
-last-again : (l : Last) → lastOf (isSeen l) (counterOf l) ≡ l
+last-again : (l : Last) → lastOf (seenOf l) (counterOf l) ≡ l
 last-again unseen = refl
 last-again (seen l) = refl
 

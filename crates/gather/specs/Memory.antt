@@ -17,16 +17,15 @@ use Rattle.gather.specs.Rule.{Last, unseen, seen, State, Outcome, rule}
 
 -- the marks of an area that was just taken, and of a free one
 abbrev pub noMarks : Marks
-noMarks = record { held = 0; seen = false; counter = 0 }
+noMarks = record { held = 0; seen = 0; counter = 0 }
 
--- "held bytes are 0 to 4,095; an area that has seen no counter holds 0 bytes and counter 0, any other used area a counter of 0 to 15" ("Filters and areas")
+-- "held bytes are 0 to 4,095; an area that has seen no counter holds 0 bytes and counter 0, any other used area a counter of 0 to 15" ("Filters and areas"); that a counter was seen is marked by 0 or 1
 abbrev pub soundMarks : Marks → Bool
-soundMarks m = cond (m .seen) (leb (m .held) 4095 && leb (m .counter) 15) (eqb (m .held) 0 && eqb (m .counter) 0)
+soundMarks m = cond (eqb (m .seen) 0) (eqb (m .held) 0 && eqb (m .counter) 0) (eqb (m .seen) 1 && leb (m .held) 4095 && leb (m .counter) 15)
 
 -- the last counter that the marks say, or none yet
-abbrev pub lastOf : Bool → ℕ → Last
-lastOf false counter = unseen
-lastOf true counter = seen counter
+abbrev pub lastOf : ℕ → ℕ → Last
+lastOf mark counter = cond (eqb mark 0) unseen (seen counter)
 
 -- the n bytes of s from `at` on; bytes past the end are none
 abbrev pub stretch : ℕ → List ℕ → ℕ → List ℕ
@@ -36,10 +35,10 @@ stretch n s at = take n (drop at s)
 abbrev pub stateOf : Marks → List ℕ → ℕ → State
 stateOf m store base = record { held = stretch (m .held) store base; last = lastOf (m .seen) (m .counter) }
 
--- whether a counter was seen
-abbrev pub isSeen : Last → Bool
-isSeen unseen = false
-isSeen (seen l) = true
+-- the mark of whether a counter was seen
+abbrev pub seenOf : Last → ℕ
+seenOf unseen = 0
+seenOf (seen l) = 1
 
 -- the last counter, 0 where there is none
 abbrev pub counterOf : Last → ℕ
@@ -48,7 +47,7 @@ counterOf (seen l) = l
 
 -- the marks of what an area remembers
 abbrev pub marksOf : State → Marks
-marksOf s = record { held = length (s .held); seen = isSeen (s .last); counter = counterOf (s .last) }
+marksOf s = record { held = length (s .held); seen = seenOf (s .last); counter = counterOf (s .last) }
 
 -- what gathering says in document 01's terms: the area's marks after the packet, and of the packet call's answer all but the set
 pub record Result : Type 0 where

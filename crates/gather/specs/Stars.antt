@@ -35,7 +35,7 @@ Right pointer-182-stored =
     → gatherOf noMarks counter true (182 ∷ (bytes ++ 0x80 ∷ [])) store base out
     ≡ leaves
     (given (record {
-      marks = record { held = 1; seen = true; counter = counter };
+      marks = record { held = 1; seen = 1; counter = counter };
       sections = 0;
       bytes = 0;
       jump = false;

@@ -61,4 +61,4 @@ unchangedOf marks again = record { marks = marks; sections = 0; bytes = 0; jump 
 -- the numbers of a packet that is taken
 abbrev pub changedOf : Bool → ℕ → ℕ → Sizes → Gathered
 changedOf jump counter givenUp z =
-    record { marks = record { held = z .held; seen = true; counter = counter }; sections = z .sections; bytes = z .bytes; jump = jump; repeat = false; «given_up» = givenUp }
+    record { marks = record { held = z .held; seen = 1; counter = counter }; sections = z .sections; bytes = z .bytes; jump = jump; repeat = false; «given_up» = givenUp }

@@ -27,10 +27,10 @@ pub const LEAST_OUTPUT: usize = 4278;
 // A packet's payload has "184 bytes" at most.
 pub const PAYLOAD_BYTES: usize = 184;
 
-// What the rule reads of an area besides the held bytes.
+// What the rule reads of an area besides the held bytes: how many there are, whether a counter was seen (0 or 1), and the last one.
 pub struct Marks {
-    pub held: usize,
-    pub seen: bool,
+    pub held: u16,
+    pub seen: u8,
     pub counter: u8,
 }
 
@@ -53,10 +53,10 @@ pub enum Gathering {
 pub fn sound(marks: Marks) -> bool
     ensures { λ r. ⌜ TellsSound marks r ⌝ }
 {
-    if marks.seen {
-        return (marks.held <= 4095) & (marks.counter <= 15);
+    if marks.seen == 0 {
+        return (marks.held == 0) & (marks.counter == 0);
     }
-    (marks.held == 0) & (marks.counter == 0)
+    (marks.seen == 1) & (marks.held <= 4095) & (marks.counter <= 15)
 }
 
 // Refusal 9: whether the held bytes are no part of a section; bytes past the store's end are none.
@@ -82,14 +82,14 @@ pub fn leaves_none(start: bool, payload: &[u8]) -> bool
 fn repeats(marks: Marks, counter: u8) -> bool
     ensures { λ r. ⌜ r ≡ repeats (lastOf (marks .seen) (marks .counter)) counter ⌝ }
 {
-    marks.seen & (counter == marks.counter)
+    (marks.seen != 0) & (counter == marks.counter)
 }
 
 fn jumps(marks: Marks, counter: u8) -> bool
     requires { ⌜ soundMarks marks ≡ true ⌝ }
     ensures { λ r. ⌜ r ≡ jumps (lastOf (marks .seen) (marks .counter)) counter ⌝ }
 {
-    marks.seen & ((counter != marks.counter) & (counter != (marks.counter + 1) % 16))
+    (marks.seen != 0) & ((counter != marks.counter) & (counter != (marks.counter + 1) % 16))
 }
 
 // After a jump nothing is held.
@@ -128,12 +128,13 @@ fn unchanged(marks: Marks, repeat: bool) -> Gathered
 
 // A packet that is not dropped sets the last counter.
 fn changed(jump: bool, counter: u8, given_up: u8, sizes: Sizes) -> Gathered
+    requires { ⌜ sizes .held ≤ 4095 ⌝ }
     ensures { λ r. ⌜ r ≡ changedOf jump counter «given_up» sizes ⌝ }
 {
     Gathered {
         marks: Marks {
-            held: sizes.held,
-            seen: true,
+            held: sizes.held as u16,
+            seen: 1,
             counter,
         },
         sections: sizes.sections,
@@ -168,8 +169,9 @@ fn accepted(
         return unchanged(marks, true);
     }
     let jump = jumps(marks, counter);
-    let lost = lost(jump, marks.held);
-    let sizes = gathered(start, kept(jump, marks.held), payload, store, base, out);
+    let held = marks.held as usize;
+    let lost = lost(jump, held);
+    let sizes = gathered(start, kept(jump, held), payload, store, base, out);
     let given_up = lost + sizes.given_up;
     changed(jump, counter, given_up, sizes)
 }

@@ -4,6 +4,7 @@ pub mod Refusal
 pub mod Judged
 pub mod Write
 pub mod Walk
+pub mod Kept
 pub mod Set
 pub mod Frame
 pub mod Number

@@ -1,13 +1,14 @@
 -- A set of places fits as many bits as there are places, and has a place exactly where what stands there passes.
 -- Assumes nothing.
-use mathlib.Core.Path.{_≡_, refl, sym, _∙_, ap}
+use mathlib.Core.Path.{_≡_, refl, sym, _∙_, ap, ap₂}
 use mathlib.Core.Bool.{Bool, true, false, cond}
 use mathlib.Core.List.{List, [], _∷_, map}
-use Prim.Native.Nat.{ℕ, zero, suc, _+_, _*_, _/_, _%_, _^_, _<_}
-use native.Mathlib.Nat.{pow-suc, pow-succ', div-one, zero-div, div-div-eq-div-mul, add-mul-div-left, add-mul-mod-self-left, zero-add}
+use Prim.Native.Nat.{ℕ, zero, suc, _+_, _*_, _/_, _%_, _^_, _≤_, _<_}
+use native.Mathlib.Nat.{pow-suc, pow-succ', mul-add, mul-comm, mul-assoc, mul-zero, add-assoc, add-zero, div-one, zero-div, div-div-eq-div-mul, add-mul-div-left, add-mul-mod-self-left, zero-add}
+use native.Mathlib.Numerals.{add-one}
 use native.Mathlib.Omega.{arith}
 use lib.Dec.{eqb, lit<}
-use lib.ListN.{length, drop, getD}
+use lib.ListN.{length, drop, getD, drop-of-length-le}
 use lib.Seq.{drop-cons}
 use Rattle.ground.specs.Set.{setOf, isIn}
 
@@ -35,6 +36,22 @@ module _ {ℓ} {A : Type ℓ} (p : A → Bool) where
   -- one place more
   pub set-turn : (l : List A) (i : ℕ) (d : A) → i < length l → setOf p (drop i l) ≡ cond (p (getD l i d)) 1 0 + 2 * setOf p (drop (suc i) l)
   set-turn l i d h = ap (setOf p) (drop-cons l i d h)
+
+  -- a loop that adds up the set, where what is done and what is left make up the whole: it goes on, ends
+  module _ (l : List A) (i done whole : ℕ) (left : done + 2 ^ i * setOf p (drop i l) ≡ whole) where
+    pub set-goes : (d : A) → i < length l → done + cond (p (getD l i d)) 1 0 * 2 ^ i + 2 ^ (i + 1) * setOf p (drop (i + 1) l) ≡ whole
+    set-goes d h =
+        let b : ℕ = cond (p (getD l i d)) 1 0 in
+        let rest = setOf p (drop (suc i) l) in
+        let spread : 2 ^ i * (b + 2 * rest) ≡ b * 2 ^ i + 2 ^ suc i * rest =
+        mul-add (2 ^ i) b (2 * rest) ∙ ap₂ (λ (m n : ℕ). m + n) (mul-comm (2 ^ i) b) (sym (mul-assoc (2 ^ i) 2 rest) ∙ ap (λ (n : ℕ). n * rest) (sym (pow-suc 2 i))) in
+        rw (add-one i)
+        (add-assoc done (b * 2 ^ i) (2 ^ suc i * rest)
+        ∙ ap (λ (n : ℕ). done + n) (sym spread ∙ ap (λ (n : ℕ). 2 ^ i * n) (sym (set-turn l i d h)))
+        ∙ left)
+
+    pub set-ends : length l ≤ i → done ≡ whole
+    set-ends h = sym (ap (λ (m : List A). done + 2 ^ i * setOf p m) (drop-of-length-le l h) ∙ ap (λ (n : ℕ). done + n) (mul-zero (2 ^ i)) ∙ add-zero done) ∙ left
 
   -- a place is in the set exactly where what stands there passes; past the last place stands what does not
   pub in-set : (l : List A) (k : ℕ) (d : A) → p d ≡ false → isIn k (setOf p l) ≡ p (getD l k d)

@@ -62,10 +62,10 @@ with-user-users pid q a owns = go (isUsed a) refl
 free-blank : (a : Area) (store : List ℕ) (base : ℕ) → soundArea a ≡ true → isUsed a ≡ false → stateOf (a .marks) store base ≡ blank
 free-blank a store base e u =
     let zero : isZeroArea a ≡ true = rw u at e in
-    let p2 = both-true (eqb (a .pid .0) 0 && eqb (a .marks .held) 0 && not (a .marks .seen)) (eqb (a .marks .counter) 0) zero in
-    let p1 = both-true (eqb (a .pid .0) 0 && eqb (a .marks .held) 0) (not (a .marks .seen)) (p2 .0) in
+    let p2 = both-true (eqb (a .pid .0) 0 && eqb (a .marks .held) 0 && eqb (a .marks .seen) 0) (eqb (a .marks .counter) 0) zero in
+    let p1 = both-true (eqb (a .pid .0) 0 && eqb (a .marks .held) 0) (eqb (a .marks .seen) 0) (p2 .0) in
     let p0 = both-true (eqb (a .pid .0) 0) (eqb (a .marks .held) 0) (p1 .0) in
-    rw (eqb-true (a .marks .held) 0 (p0 .1), not-true (a .marks .seen) (p1 .1))
+    rw (eqb-true (a .marks .held) 0 (p0 .1), p1 .1)
 
 -- ---- the ledger
 module _ (w : World) (h : List AcceptedCall) (l : Ledger w h) (pid : ℕ) (o : Opens (w .state) pid) where

@@ -34,10 +34,10 @@ marks-sound a e = go (isUsed a) refl
     go true u = used-sound a e u .1
     go false u =
         let zero : isZeroArea a ≡ true = sym (ap (λ (b : Bool). cond b (leb (a .pid .0) 0x1FFE && soundMarks (a .marks)) (isZeroArea a)) u) ∙ e in
-        let p2 = both-true (eqb (a .pid .0) 0 && eqb (a .marks .held) 0 && not (a .marks .seen)) (eqb (a .marks .counter) 0) zero in
-        let p1 = both-true (eqb (a .pid .0) 0 && eqb (a .marks .held) 0) (not (a .marks .seen)) (p2 .0) in
+        let p2 = both-true (eqb (a .pid .0) 0 && eqb (a .marks .held) 0 && eqb (a .marks .seen) 0) (eqb (a .marks .counter) 0) zero in
+        let p1 = both-true (eqb (a .pid .0) 0 && eqb (a .marks .held) 0) (eqb (a .marks .seen) 0) (p2 .0) in
         let p0 = both-true (eqb (a .pid .0) 0) (eqb (a .marks .held) 0) (p1 .0) in
-        rw (not-true (a .marks .seen) (p1 .1), p0 .1, p2 .1)
+        rw (p1 .1, p0 .1, p2 .1)
 
 -- the clauses of soundness
 pub record Clauses (s : State) : Type 0 where

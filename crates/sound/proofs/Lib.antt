@@ -1,4 +1,5 @@
 pub mod Pass
 pub mod Clauses
+pub mod Areas
 pub mod Pids
 pub mod Claims

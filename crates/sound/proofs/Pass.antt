@@ -1,25 +1,26 @@
 -- One pass over the filter places finds out what three clauses of soundness ask: the places are in range, the users are counted, and numbers differ, those of different classes without a comparison.
 -- Assumes nothing.
 use mathlib.Core.Path.{_≡_, refl, sym, _∙_, ap, ap₂}
-use mathlib.Core.Bool.{Bool, true, false, cond, not, _&&_, false≢true}
+use mathlib.Core.Bool.{Bool, true, false, cond, not, _&&_, _||_, false≢true}
 use mathlib.Core.List.{List, [], _∷_}
-use Prim.Native.Nat.{ℕ, zero, suc, _+_, _/_, _%_, _≤_, _<_, suc-le-suc, zero-le}
+use Prim.Native.Nat.{ℕ, zero, suc, _+_, _-_, _%_, _≤_, _<_, suc-le-suc, zero-le}
 use native.Mathlib.Nat.{mod-lt, zero-add, add-zero, add-suc, suc-add, not-suc-le-zero, le-of-suc-le-suc}
 use native.Mathlib.Numerals.{add-one}
 use native.Mathlib.Omega.{arith}
-use borrow.Author.Tests.{eq-eqb, ne-eqb, eqb-true, ltb-true, lt-ltb, not-true}
+use borrow.Author.Tests.{eq-eqb, ne-eqb, eqb-true, eqb-false, ltb-true, lt-ltb, not-true}
 use native.Mathlib.Decide.{ℕ-discrete, decLt}
 use lib.Dec.{eqb, ltb, lit<}
-use lib.ListN.{length, take, drop, getD, set, replicate, getD-replicate, length-set, drop-of-length-le, List·getD-eq-default}
-use lib.Seq.{length-take-le, getD-take, drop-cons, getD-set-same, getD-set-other}
+use lib.ListN.{length, drop, getD, set, replicate, getD-replicate, length-set, length-drop, List·getD-eq-default}
+use lib.Seq.{getD-drop, drop-cons, getD-set-same, getD-set-other}
 use Rattle.ground.specs.Walk.{all, apart, count}
 use Rattle.ground.proofs.Test.{both-true, true-both}
-use Rattle.ground.proofs.Walk.{all-at, all-of, all-goes, all-ends, apart-of, apart-at, total-turn, total-at, count-le}
+use Rattle.ground.proofs.Walk.{all-at, all-of, all-goes, apart-of, total-turn, total-at, total-none, count-le}
+use Rattle.ground.proofs.Kept.{Kept, kept-none, kept-one, kept-new, kept-met}
 use Rattle.state.specs.State.{isOpen, isUsed, standsOn, freeArea, freeFilter}
 use Rattle.state.specs.declared.Area.{Area}
 use Rattle.state.specs.declared.Filter.{Filter}
 use Rattle.sound.specs.Sound.{soundFilter, counted, sameNumber}
-use Rattle.sound.specs.Steps.{agree, fitsPlace, countedIn, metIn, isMet, classOf}
+use Rattle.sound.specs.Steps.{isNew, numberKept, isZeroPlace, agree, fitsPlace, countedIn, metIn, isMet, classOf}
 
 -- ---- counts and users
 pub agree-turn : (counts : List ℕ) (areas : List Area) (i : ℕ) → i < length counts → i < length areas
@@ -104,7 +105,7 @@ apart-now met f g unmet marked = go (isOpen f) refl (ℕ-discrete (f .number) (g
         (false≢true
         (sym unmet
         ∙ true-both (isOpen g) _ (ap (λ (n : ℕ). not (eqb n 0)) (sym q) ∙ e)
-        (ap (λ (n : ℕ). not (eqb n 0)) (ap (λ (n : ℕ). getD met ((n / 256 + n % 256) % 256) 0) (sym q) ∙ marked e))))
+        (ap (λ (n : ℕ). not (eqb n 0)) (ap (λ (n : ℕ). getD met (n % 256) 0) (sym q) ∙ marked e))))
 
 -- so a filter whose class is not met is new, as one is that was compared with those before it
 abbrev IsNew : List Filter → ℕ → Type 0
@@ -118,7 +119,7 @@ met-turn : (filters : List Filter) (met : List ℕ) (i : ℕ) → length met ≡
 met-turn filters met i long new m = record { marked = marks; differ = differs }
   where
     room : (f : Filter) → classOf f < length met
-    room f = rw long (mod-lt (f .number / 256 + f .number % 256) (lit< tt))
+    room f = rw long (mod-lt (f .number) (lit< tt))
 
     marks : (j : ℕ) → j < i + 1 → isOpen (getD filters j freeFilter) ≡ true
         → getD (metIn met (getD filters i freeFilter)) (classOf (getD filters j freeFilter)) 0 ≡ 1
@@ -245,45 +246,52 @@ module _ (next : ℕ) (areas : List Area) (filters : List Filter) (long : length
       go true q = rw (places-sound next areas filters long q ∙ r, e, q)
       go false q = clauses-counted q
 
--- ---- a filter compared with those before it
-module _ (filters : List Filter) (i : ℕ) (h : i < length filters) where
-  abbrev own : Filter
-  own = getD filters i freeFilter
+-- ---- two open filters have one number exactly where what is kept of them is equal
+pub same-kept : (f g : Filter) → sameNumber f g ≡ true → numberKept f ≡ numberKept g
+same-kept f g e = eqb-true (f .number) (g .number) (both-true (isOpen f) (eqb (f .number) (g .number)) e .1)
 
-  abbrev differsFrom : Filter → Bool
-  differsFrom g = not (sameNumber g own)
+pub kept-same : (f g : Filter) → numberKept f ≡ numberKept g → (numberKept g ≡ 0 → ⊥) → sameNumber f g ≡ true
+kept-same f g e some =
+    true-both (isOpen f) (eqb (f .number) (g .number)) (ap not (ne-eqb (f .number) 0 (λ z. some (sym e ∙ z)))) (eq-eqb (f .number) (g .number) e)
 
-  first : length (take i filters) ≡ i
-  first = length-take-le i filters (omega arith)
+-- ---- a place that is all zero
+pub zero-place : (f : Filter) → (not (eqb (f .number) 0) || not (eqb (f .area) 0)) ≡ false → isZeroPlace f ≡ true
+zero-place f = go (eqb (f .number) 0) (eqb (f .area) 0)
+  where
+    go : (a b : Bool) → (not a || not b) ≡ false → (a && b) ≡ true
+    go true true e = refl
+    go true false e = sym e
+    go false b e = sym e
 
-  pub compared-new : all differsFrom (take i filters) ≡ true → IsNew filters i
-  compared-new e j b =
-      not-true (sameNumber (getD filters j freeFilter) own)
-      (ap differsFrom (sym (getD-take i filters j freeFilter b)) ∙ all-at differsFrom (take i filters) freeFilter e j (rw first b))
+zero-fits : (next : ℕ) (f : Filter) → isZeroPlace f ≡ true → fitsPlace next f ≡ true
+zero-fits next f e = let p = both-true (eqb (f .number) 0) (eqb (f .area) 0) e in rw (p .0) (p .1)
 
-  pub compared-same : all differsFrom (take i filters) ≡ false → apart sameNumber filters ≡ false
-  compared-same e = go (apart sameNumber filters) refl
-    where
-      go : (b : Bool) → apart sameNumber filters ≡ b → b ≡ false
-      go false q = refl
-      go true q =
-          let each : (j : ℕ) → j < length (take i filters) → differsFrom (getD (take i filters) j freeFilter) ≡ true = λ j b.
-          let inside : j < i = rw first at b in
-          ap differsFrom (getD-take i filters j freeFilter inside) ∙ ap not (apart-at sameNumber filters freeFilter q j i inside h) in
-          sym (sym e ∙ all-of differsFrom (take i filters) freeFilter each)
+zero-stands : (k : ℕ) (f : Filter) → isZeroPlace f ≡ true → standsOn k f ≡ false
+zero-stands k f e = rw (both-true (eqb (f .number) 0) (eqb (f .area) 0) e .0)
+
+zero-unlike : (f g : Filter) → isZeroPlace g ≡ true → sameNumber f g ≡ false
+zero-unlike f g e = go (sameNumber f g) refl
+  where
+    go : (b : Bool) → sameNumber f g ≡ b → b ≡ false
+    go false q = refl
+    go true q =
+        absurd
+        (eqb-false (f .number) 0 (not-true _ (both-true (isOpen f) (eqb (f .number) (g .number)) q .0))
+        (same-kept f g q ∙ eqb-true (g .number) 0 (both-true (eqb (g .number) 0) (eqb (g .area) 0) e .0)))
 
 -- ---- the pass over the places
 -- what is known once i places are passed
-pub record Passed (next : ℕ) (filters : List Filter) (counts met : List ℕ) (i : ℕ) : Type 0 where
+pub record Passed (next : ℕ) (filters : List Filter) (counts met numbers : List ℕ) (i : ℕ) : Type 0 where
   pub bound : i ≤ 32
   pub ranged : all (fitsPlace next) filters ≡ all (fitsPlace next) (drop i filters)
   pub eight : length counts ≡ 8
   pub classes : length met ≡ 256
   pub tallied : (k : ℕ) → k < 8 → getD counts k 0 + count (standsOn k) (drop i filters) ≡ count (standsOn k) filters
   pub unlike : Met filters met i
+  pub kept : Kept numberKept 0 freeFilter filters numbers i
 
-pub passed-none : (next : ℕ) (filters : List Filter) → Passed next filters (replicate 8 0) (replicate 256 0) 0
-passed-none next filters =
+pub passed-none : (next : ℕ) (filters : List Filter) → length filters ≡ 32 → Passed next filters (replicate 8 0) (replicate 256 0) (replicate 32 0) 0
+passed-none next filters long =
     record {
       bound = zero-le;
       ranged = refl;
@@ -291,34 +299,16 @@ passed-none next filters =
       classes = refl;
       tallied = λ k h. rw (getD-replicate {A = ℕ} 8 k 0 0 h) (zero-add (count (standsOn k) filters));
       unlike = met-none filters (replicate 256 0);
+      kept = kept-none numberKept 0 freeFilter filters 32 long;
     }
 
-module _ (next : ℕ) (filters : List Filter) (counts met : List ℕ) (i : ℕ) (long : length filters ≡ 32) (p : Passed next filters counts met i) where
-  passed-turn : i < 32 → fitsPlace next (getD filters i freeFilter) ≡ true → IsNew filters i
-      → Passed next filters (countedIn counts (getD filters i freeFilter)) (metIn met (getD filters i freeFilter)) (i + 1)
-  passed-turn h fits new =
-      record {
-        bound = omega arith;
-        ranged = all-goes (fitsPlace next) filters i (all (fitsPlace next) filters) (p .ranged) freeFilter here fits;
-        eight = length-counted counts (getD filters i freeFilter) ∙ p .eight;
-        classes = length-met met (getD filters i freeFilter) ∙ p .classes;
-        tallied = λ k b. rw (add-one i) (counted-turn filters counts i k here (rw (p .eight) b) ∙ p .tallied k b);
-        unlike = met-turn filters met i (p .classes) new (p .unlike);
-      }
-    where
-      here : i < length filters
-      here = rw long h
+module _ (next : ℕ) (filters : List Filter) (counts met numbers : List ℕ) (i : ℕ) (long : length filters ≡ 32) (p : Passed next filters counts met numbers i) where
+  abbrev own : Filter
+  own = getD filters i freeFilter
 
-  -- one place more, of a class that is not met
-  pub passed-unmet : i < 32 → fitsPlace next (getD filters i freeFilter) ≡ true → isMet met (getD filters i freeFilter) ≡ false
-      → Passed next filters (countedIn counts (getD filters i freeFilter)) (metIn met (getD filters i freeFilter)) (i + 1)
-  passed-unmet h fits unmet = passed-turn h fits (unmet-new filters met i (p .unlike) unmet)
-
-  -- and one that was compared with those before it
-  pub passed-compared : i < 32 → fitsPlace next (getD filters i freeFilter) ≡ true
-      → all (λ g. not (sameNumber g (getD filters i freeFilter))) (take i filters) ≡ true
-      → Passed next filters (countedIn counts (getD filters i freeFilter)) (metIn met (getD filters i freeFilter)) (i + 1)
-  passed-compared h fits e = passed-turn h fits (compared-new filters i (rw long h) e)
+  -- what is known after one place more
+  abbrev After : Type 0
+  After = Passed next filters (countedIn counts own) (metIn met own) (set numbers i (own .number)) (i + 1)
 
   -- there is room for one more at every area
   pub counts-small : (k : ℕ) → k < 8 → getD counts k 0 < 255
@@ -327,25 +317,64 @@ module _ (next : ℕ) (filters : List Filter) (counts met : List ℕ) (i : ℕ) 
       let e = p .tallied k h in
       omega arith
 
-  -- once all are passed
-  module _ (end : 32 ≤ i) where
+  module _ (h : i < 32) where
+    here : i < length filters
+    here = rw long h
+
+    passed-turn : fitsPlace next own ≡ true → IsNew filters i → After
+    passed-turn fits new =
+        record {
+          bound = omega arith;
+          ranged = all-goes (fitsPlace next) filters i (all (fitsPlace next) filters) (p .ranged) freeFilter here fits;
+          eight = length-counted counts own ∙ p .eight;
+          classes = length-met met own ∙ p .classes;
+          tallied = λ k b. rw (add-one i) (counted-turn filters counts i k here (rw (p .eight) b) ∙ p .tallied k b);
+          unlike = met-turn filters met i (p .classes) new (p .unlike);
+          kept = kept-one numberKept 0 freeFilter filters numbers i (p .kept) here _ refl;
+        }
+
+    -- one place more, of a class that is not met
+    pub passed-unmet : fitsPlace next own ≡ true → isMet met own ≡ false → After
+    passed-unmet fits unmet = passed-turn fits (unmet-new filters met i (p .unlike) unmet)
+
+    -- and one whose number is none of those kept
+    pub passed-compared : fitsPlace next own ≡ true → isNew (own .number) numbers ≡ true → After
+    passed-compared fits e = passed-turn fits (kept-new numberKept 0 freeFilter filters numbers i (p .kept) sameNumber same-kept kept-same here e)
+
+    -- a class that is met is that of an open filter; where its number is one of those kept, two filters have it
+    pub passed-met : isMet met own ≡ true → isNew (own .number) numbers ≡ false → apart sameNumber filters ≡ false
+    passed-met m e =
+        kept-met numberKept 0 freeFilter filters numbers i (p .kept) sameNumber same-kept kept-same here
+        (eqb-false _ 0 (not-true _ (both-true (isOpen own) _ m .0))) e
+
+  -- once all are passed but those that are all zero
+  module _ (zeros : all isZeroPlace (drop i filters) ≡ true) where
+    zero-left : (j : ℕ) → j < length (drop i filters) → isZeroPlace (getD (drop i filters) j freeFilter) ≡ true
+    zero-left = all-at isZeroPlace (drop i filters) freeFilter zeros
+
     pub passed-ranged : all (fitsPlace next) filters ≡ true
-    passed-ranged = all-ends (fitsPlace next) filters i (all (fitsPlace next) filters) (p .ranged) (rw long end)
+    passed-ranged = p .ranged ∙ all-of (fitsPlace next) (drop i filters) freeFilter (λ j h. zero-fits next (getD (drop i filters) j freeFilter) (zero-left j h))
 
     pub passed-counts : (areas : List Area) → length areas ≡ 8 → agree counts areas ≡ counted filters 0 areas
     passed-counts areas eight = agree-counted filters 0 counts areas (p .eight ∙ sym eight) right
       where
-        done : drop i filters ≡ []
-        done = let past : length filters ≤ i = rw long end in drop-of-length-le filters past
-
         right : (k : ℕ) → k < length areas → getD counts k 0 ≡ count (standsOn (0 + k)) filters
         right k h =
             let e = p .tallied k (rw eight at h) in
-            let none : count (standsOn k) (drop i filters) ≡ 0 = ap (count (standsOn k)) done in
+            let none : count (standsOn k) (drop i filters) ≡ 0 =
+            total-none (λ f. cond (standsOn k f) 1 0) (drop i filters) freeFilter (λ j b. ap (λ (o : Bool). cond o 1 0) (zero-stands k (getD (drop i filters) j freeFilter) (zero-left j b))) in
             rw (zero-add k) (omega arith)
 
     pub passed-apart : apart sameNumber filters ≡ true
-    passed-apart = apart-of sameNumber filters freeFilter (λ j k h b. p .unlike .differ j k h (omega arith))
+    passed-apart = apart-of sameNumber filters freeFilter (λ j k h b. go j k h b (decLt k i))
+      where
+        go : (j k : ℕ) → j < k → k < length filters → Dec (k < i) → sameNumber (getD filters j freeFilter) (getD filters k freeFilter) ≡ false
+        go j k h b (yes q) = p .unlike .differ j k h q
+        go j k h b (no n) =
+            let back : i + (k - i) ≡ k = omega arith in
+            let inside : k - i < length (drop i filters) = simp length-drop (omega arith) in
+            let there = getD-drop i filters (k - i) freeFilter ∙ ap (λ (m : ℕ). getD filters m freeFilter) back in
+            zero-unlike (getD filters j freeFilter) (getD filters k freeFilter) (ap isZeroPlace (sym there) ∙ zero-left (k - i) inside)
 
 -- users that are right at every area are counted
 counted-of : (filters : List Filter) (i : ℕ) (areas : List Area)

@@ -1,12 +1,29 @@
--- What one pass over the filter places finds out, for the private functions that test soundness; no public promise cites it.
+-- What one pass over the areas and one over the filter places find out, for the private functions that test soundness; no public promise cites it.
 use mathlib.Core.Bool.{Bool, true, cond, not, _&&_}
 use mathlib.Core.List.{List, [], _∷_}
-use Prim.Native.Nat.{ℕ, _+_, _/_, _%_}
+use Prim.Native.Nat.{ℕ, _+_, _%_}
 use lib.Dec.{ltb, eqb}
 use lib.ListN.{getD, set}
-use Rattle.state.specs.State.{isOpen}
+use Rattle.ground.specs.Walk.{all}
+use Rattle.state.specs.State.{isOpen, isUsed}
 use Rattle.state.specs.declared.Area.{Area}
 use Rattle.state.specs.declared.Filter.{Filter}
+
+-- a number is none of these
+abbrev pub isNew : ℕ → List ℕ → Bool
+isNew own others = all (λ n. not (eqb n own)) others
+
+-- what the pass over the areas keeps of one: a used area's PID, and of a free one what no PID is
+abbrev pub pidKept : Area → ℕ
+pidKept a = cond (isUsed a) (a .pid .0) 0xFFFF
+
+-- what the pass over the places keeps of one: its number, which is 0 where the place is free
+abbrev pub numberKept : Filter → ℕ
+numberKept f = f .number
+
+-- a place's record is all zero
+abbrev pub isZeroPlace : Filter → Bool
+isZeroPlace f = eqb (f .number) 0 && eqb (f .area) 0
 
 -- a free place is all zero, an open one has a number below the next and an area of the eight
 abbrev pub fitsPlace : ℕ → Filter → Bool
@@ -16,9 +33,9 @@ fitsPlace next f = cond (isOpen f) (ltb (f .number) next && ltb (f .area) 8) (eq
 abbrev pub countedIn : List ℕ → Filter → List ℕ
 countedIn counts f = cond (isOpen f) (set counts (f .area) (getD counts (f .area) 0 + 1)) counts
 
--- numbers fall into 256 classes; two that are equal fall into one, and neither 32 that follow each other nor 32 that are 64 or 256 apart do
+-- numbers fall into 256 classes, by their last eight bits; two that are equal fall into one
 abbrev pub classOf : Filter → ℕ
-classOf f = (f .number / 256 + f .number % 256) % 256
+classOf f = f .number % 256
 
 abbrev pub metIn : List ℕ → Filter → List ℕ
 metIn met f = cond (isOpen f) (set met (classOf f) 1) met

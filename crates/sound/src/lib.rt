@@ -1,19 +1,22 @@
-// Whether a state is sound: each clause of "Sound means"; users are counted in one pass over the filter places.
+// Whether a state is sound: each clause of "Sound means", in one pass over the areas and one over the filter places.
 ghost use mathlib.Core.Path.{_≡_};
-ghost use mathlib.Core.Bool.{not, true, _&&_};
+ghost use mathlib.Core.Bool.{true, _&&_};
 ghost use Prim.Native.Nat.{ℕ, _≤_, _<_};
-ghost use lib.ListN.{take, drop, getD};
+ghost use lib.ListN.{drop, getD};
 ghost use Rattle.ground.specs.Walk.{all, apart};
 ghost use Rattle.state.specs.State.{isOpen};
 ghost use Rattle.sound.specs.Sound.{soundArea, soundFilter, samePid, sameNumber, soundNext, counted};
 ghost use Rattle.sound.specs.Promises.{TellsSoundState};
-ghost use Rattle.sound.specs.Steps.{fitsPlace, countedIn, metIn, isMet, agree};
+ghost use Rattle.sound.specs.Steps.{isNew, isZeroPlace, fitsPlace, countedIn, metIn, isMet, agree};
 use state::AREAS;
 use state::Area;
 use state::Filter;
 use state::LAST_FILTER_PID;
 use state::PLACES;
 use state::State;
+
+// What no PID is: it stands where an area is free.
+const NO_PID: u16 = 0xFFFF;
 
 // Whether the next number to give is one.
 fn next_is_sound(next: u32) -> bool
@@ -31,81 +34,39 @@ fn area_is_sound(area: Area) -> bool
     if area.users != 0 {
         return (pid.0 <= LAST_FILTER_PID) & gather::sound(marks);
     }
-    (pid.0 == 0) & (marks.held == 0) & !marks.seen & (marks.counter == 0)
+    (pid.0 == 0) & (marks.held == 0) & (marks.seen == 0) & (marks.counter == 0)
 }
 
-// Whether every area's record is sound by itself.
-fn areas_are_sound(areas: [Area; AREAS]) -> bool
-    ensures { λ r. ⌜ r ≡ all soundArea areas ⌝ }
+// Whether a number is none of these: all are looked at, so that the compiler can compare many at once.
+fn is_new(own: u16, others: &[u16]) -> bool
+    ensures { λ r. ⌜ r ≡ isNew own (now (others .entry)) ⌝ }
 {
+    let mut met = false;
+    let mut i: usize = 0;
+    while i < others.len() {
+        met = met | (others[i] == own);
+        i += 1;
+    }
+    !met
+}
+
+// Whether every area's record is sound by itself, and no PID has two areas: one pass, in which a used area's PID is compared with those before it.
+fn areas_are_sound(areas: [Area; AREAS]) -> bool
+    ensures { λ r. ⌜ r ≡ (all soundArea areas && apart samePid areas) ⌝ }
+{
+    let mut pids = [NO_PID; AREAS];
     let mut i: usize = 0;
     while i < AREAS {
         let area = areas[i];
         if !area_is_sound(area) {
             return false;
         }
-        i += 1;
-    }
-    true
-}
-
-// Whether two areas are used by one PID.
-fn same_pid(a: Area, b: Area) -> bool
-    ensures { λ r. ⌜ r ≡ samePid a b ⌝ }
-{
-    let p = a.pid;
-    let q = b.pid;
-    (a.users != 0) & (b.users != 0) & (p.0 == q.0)
-}
-
-// Whether no area from `from` on is used by the PID of this one.
-fn is_alone(own: Area, areas: [Area; AREAS], from: usize) -> bool
-    requires { ⌜ from ≤ 8 ⌝ }
-    ensures { λ r. ⌜ r ≡ all (λ b. not (samePid own b)) (drop from areas) ⌝ }
-{
-    let mut i: usize = from;
-    while i < AREAS {
-        let other = areas[i];
-        if same_pid(own, other) {
-            return false;
-        }
-        i += 1;
-    }
-    true
-}
-
-// Whether used areas have different PIDs.
-fn pids_differ(areas: [Area; AREAS]) -> bool
-    ensures { λ r. ⌜ r ≡ apart samePid areas ⌝ }
-{
-    let mut i: usize = 0;
-    while i < AREAS {
-        let own = areas[i];
-        if !is_alone(own, areas, i + 1) {
-            return false;
-        }
-        i += 1;
-    }
-    true
-}
-
-// Whether two filters are open with one number.
-fn same_number(f: Filter, g: Filter) -> bool
-    ensures { λ r. ⌜ r ≡ sameNumber f g ⌝ }
-{
-    (f.number != 0) & (f.number == g.number)
-}
-
-// Whether no filter before a place has the number of this one.
-fn is_new(own: Filter, filters: [Filter; PLACES], place: usize) -> bool
-    requires { ⌜ place ≤ 32 ⌝ }
-    ensures { λ r. ⌜ r ≡ all (λ g. not (sameNumber g own)) (take place filters) ⌝ }
-{
-    let mut i: usize = 0;
-    while i < place {
-        let other = filters[i];
-        if same_number(other, own) {
-            return false;
+        if area.users != 0 {
+            let pid = area.pid;
+            if !is_new(pid.0, &pids) {
+                return false;
+            }
+            pids[i] = pid.0;
         }
         i += 1;
     }
@@ -136,7 +97,7 @@ fn tally(filter: Filter, counts: &mut [u8; 8], met: &mut [u8; 256]) -> bool
     }
     let area = filter.area as usize;
     counts[area] = counts[area] + 1;
-    let class = ((number / 256 + number % 256) % 256) as usize;
+    let class = (number % 256) as usize;
     let before = met[class];
     met[class] = 1;
     before != 0
@@ -157,23 +118,41 @@ fn counts_agree(counts: [u8; AREAS], areas: [Area; AREAS]) -> bool
     true
 }
 
+// How many places there are up to the last that is not all zero.
+fn places_used(filters: [Filter; PLACES]) -> usize
+    ensures { λ r. ⌜ (r ≤ 32) × (all isZeroPlace (drop r filters) ≡ true) ⌝ }
+{
+    let mut end: usize = PLACES;
+    while 0 < end {
+        let filter = filters[end - 1];
+        if (filter.number != 0) | (filter.area != 0) {
+            return end;
+        }
+        end -= 1;
+    }
+    0
+}
+
 // Whether the places, their numbers and the areas' user counts are sound: one pass, in which only a filter whose class was met before is compared with those before it.
 fn places_are_sound(areas: [Area; AREAS], filters: [Filter; PLACES], next: u32) -> bool
     ensures { λ r. ⌜ r ≡ (all (soundFilter next areas) filters && apart sameNumber filters && counted filters 0 areas) ⌝ }
 {
+    let end = places_used(filters);
     let mut counts = [0u8; AREAS];
     let mut met = [0u8; 256];
+    let mut numbers = [0u16; PLACES];
     let mut i: usize = 0;
-    while i < PLACES {
+    while i < end {
         let filter = filters[i];
         if !fits_place(filter, next) {
             return false;
         }
         if tally(filter, &mut counts, &mut met) {
-            if !is_new(filter, filters, i) {
+            if !is_new(filter.number, &numbers) {
                 return false;
             }
         }
+        numbers[i] = filter.number;
         i += 1;
     }
     counts_agree(counts, areas)
@@ -190,9 +169,6 @@ pub fn is_sound(state: State) -> bool
         return false;
     }
     if !areas_are_sound(areas) {
-        return false;
-    }
-    if !pids_differ(areas) {
         return false;
     }
     places_are_sound(areas, filters, next)

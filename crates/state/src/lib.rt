@@ -47,7 +47,7 @@ pub fn fresh() -> State
 {
     let marks = Marks {
         held: 0,
-        seen: false,
+        seen: 0,
         counter: 0,
     };
     let area = Area {
@@ -139,11 +139,11 @@ pub fn places_on(filters: [Filter; PLACES], area: u8) -> u32
     ensures { λ r. ⌜ TellsPlaces filters area r ⌝ }
 {
     let mut places: u32 = 0;
-    let mut i: usize = PLACES;
-    while 0 < i {
-        i -= 1;
+    let mut i: usize = 0;
+    while i < PLACES {
         let filter = filters[i];
-        places = places * 2 + stands_on(filter, area);
+        places = places + (stands_on(filter, area) << (i as u32));
+        i += 1;
     }
     places
 }

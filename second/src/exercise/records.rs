@@ -21,12 +21,7 @@ pub fn records(state: &State) -> String {
 fn area_record(index: usize, area: &Area) -> String {
     format!(
         "area {} {} {} {} {} {}",
-        index,
-        area.pid,
-        area.users,
-        area.held,
-        u8::from(area.seen),
-        area.counter
+        index, area.pid, area.users, area.held, area.seen, area.counter
     )
 }
 
@@ -38,8 +33,8 @@ pub fn set_area(state: &mut State, numbers: &[u64]) {
     state.areas[numbers[0] as usize] = Area {
         pid: numbers[1] as u16,
         users: numbers[2] as u8,
-        held: numbers[3],
-        seen: numbers[4] == 1,
+        held: numbers[3] as u16,
+        seen: numbers[4] as u8,
         counter: numbers[5] as u8,
     };
 }

@@ -61,11 +61,10 @@ impl Script {
     }
 
     fn area(&mut self, index: usize, area: &Area) {
-        let seen = u8::from(area.seen);
         let counts = format!("{} {} {}", area.pid, area.users, area.held);
         self.set_up(&format!(
             "area {} {} {} {}",
-            index, counts, seen, area.counter
+            index, counts, area.seen, area.counter
         ));
     }
 }

@@ -53,7 +53,7 @@ fn the_area_goes_with_the_last_filter() {
     assert_eq!(open(&mut state, 5), Ok((1, 0)));
     assert_eq!(open(&mut state, 6), Ok((2, 1)));
     assert_eq!(open(&mut state, 5), Ok((3, 2)));
-    state.areas[0].seen = true;
+    state.areas[0].seen = 1;
     state.areas[0].held = 9;
     state.areas[0].counter = 3;
     let area = state.areas[0];

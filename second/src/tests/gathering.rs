@@ -43,7 +43,7 @@ impl Driver {
         }
     }
 
-    fn held(&self) -> u64 {
+    fn held(&self) -> u16 {
         self.state.areas[0].held
     }
 }
@@ -177,9 +177,9 @@ fn sixty_one_sections() {
 #[test]
 fn contradictions() {
     let mut driver = Driver::new();
-    driver.state.areas[0].seen = true;
+    driver.state.areas[0].seen = 1;
     let next = packet(&[0x47, 0, 0, 0x11], 0);
-    let cases: [(u64, [u8; 3], bool); 9] = [
+    let cases: [(u16, [u8; 3], bool); 9] = [
         (1, [0xFF, 0, 0], true),
         (1, [0xFE, 0, 0], false),
         (2, [0x80, 0x0F, 0xFE], false),
@@ -192,7 +192,7 @@ fn contradictions() {
     ];
     for (held, head, refused) in cases {
         let mut driver = Driver::new();
-        driver.state.areas[0].seen = true;
+        driver.state.areas[0].seen = 1;
         driver.state.areas[0].held = held;
         driver.store[..3].copy_from_slice(&head);
         assert_eq!(driver.call(&next) == Err(Refusal(9)), refused);

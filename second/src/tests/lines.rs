@@ -17,7 +17,7 @@ fn document_01_as_a_script() {
     assert_eq!(output, expected);
 }
 
-const MALFORMED: [&str; 30] = [
+const MALFORMED: [&str; 31] = [
     "",
     " ",
     "Open 1",
@@ -34,7 +34,8 @@ const MALFORMED: [&str; 30] = [
     "open 1\r",
     "apart 18446744073709551616 0",
     "area 8 0 0 0 0 0",
-    "area 0 0 0 0 2 0",
+    "area 0 0 0 0 256 0",
+    "area 0 0 0 65536 0 0",
     "store 40960 =00",
     "store 40961 =",
     "store 18446744073709551615 =00",
@@ -70,7 +71,7 @@ fn lines_at_their_limits() {
         ("store 40960 =", "store"),
         ("output 8191 =ff", "output"),
         ("next 4294967295", "next"),
-        ("area 7 65535 255 18446744073709551615 1 255", "area"),
+        ("area 7 65535 255 65535 255 255", "area"),
         ("packet 0 0 =", "packet refused 3 store - output - next 1"),
         ("alone =", "alone refused 2 payload 0 1"),
         ("crc =", "crc wrong"),

@@ -12,7 +12,7 @@ fn right() -> State {
     for pid in [0x10, 0x11, 0x10] {
         assert!(open(&mut state, pid).is_ok());
     }
-    state.areas[1].seen = true;
+    state.areas[1].seen = 1;
     state.areas[1].counter = 15;
     state.areas[1].held = 4_095;
     assert!(sound(&state));
@@ -90,7 +90,7 @@ fn the_next_number() {
 
 #[test]
 fn held_bytes() {
-    for held in [4_096, 65_536, u64::MAX] {
+    for held in [4_096, 8_191, 65_535] {
         let mut state = right();
         state.areas[1].held = held;
         breaks(state, soundness::held_bytes_are_below_a_whole_area);
@@ -115,6 +115,15 @@ fn areas_with_counter() {
 }
 
 #[test]
+fn marks_of_a_counter() {
+    for seen in [2, 3, 255] {
+        let mut state = right();
+        state.areas[1].seen = seen;
+        breaks(state, soundness::marks_of_a_counter_are_0_or_1);
+    }
+}
+
+#[test]
 fn filters_on_used_areas() {
     let mut state = right();
     state.next = 5;
@@ -129,10 +138,11 @@ fn filters_on_used_areas() {
 #[test]
 fn free_records() {
     let records = [
-        (1, false, 0, 0),
-        (0, true, 0, 0),
-        (0, true, 7, 0),
-        (0, true, 0, 1),
+        (1, 0, 0, 0),
+        (0, 1, 0, 0),
+        (0, 2, 0, 0),
+        (0, 1, 7, 0),
+        (0, 1, 0, 1),
     ];
     for (pid, seen, counter, held) in records {
         let mut state = right();

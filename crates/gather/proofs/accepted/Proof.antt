@@ -9,7 +9,7 @@ use Rattle.gather.specs.Steps.{Carried}
 use Rattle.gather.specs.Memory.{stretch, stateOf, toldGathered, leaves, onMemory}
 use Rattle.gather.specs.Rule.{State, Packet, Outcome}
 use Rattle.gather.specs.declared.Gathered.{Gathered}
-use Rattle.gather.proofs.RuleOnMemory.{unchanged-on-memory, rule-empty, rule-repeat, changed-whole, kept-le, lost-le, yield-two}
+use Rattle.gather.proofs.RuleOnMemory.{unchanged-on-memory, rule-empty, rule-repeat, changed-whole, kept-le, lost-le, yield-two, yield-short}
 use borrow.Author.Needs.{needs}
 use Rattle.gather.proofs.accepted.Statement.{statement}
 use Rattle.gather.proofs.accepted.Tie as tie
@@ -21,13 +21,13 @@ start tested = tested .before .before .before .before
 -- where it is told how many bytes are kept: the packet is no repeat, and there was a jump or not
 module _ (k : tie.After-kept) where
   abbrev new : tie.Else2
-  new = k .before .before .before
+  new = k .before .before .before .before
 
   abbrev tested : tie.After-repeats
   tested = new .before .before
 
   abbrev jump : Bool
-  jump = k .before .before .jumps .result
+  jump = k .before .before .before .jumps .result
 
 -- the area's state and the packet, as the rule has them
 module _ (s : tie.Start) where
@@ -69,6 +69,9 @@ returns-2 c =
 jumps-requires : tie.Need-jumps-requires
 jumps-requires c κs = search needs
 
+cast-held : tie.Need-cast-held
+cast-held c = search needs
+
 lost-requires : tie.Need-lost-requires
 lost-requires c κs = search needs
 
@@ -93,7 +96,13 @@ add-given-up c =
     omega (arith, ap (λ (r : Carried). r .sizes .«given_up») (done .gathered .ensures), k .before .lost .ensures, two, one)
 
 changed-requires : tie.Need-changed-requires
-changed-requires c κs = search needs
+changed-requires c κs =
+    let done = c .before .before .before .before .before in
+    let k = done .before .before .before in
+    let s = start (tested k) in
+    let a = s .args in
+    let short = yield-short (stretch (k .kept .result) (now (a .store)) (a .base)) (a .start) (now (a .payload)) (s .pre .0 .short) in
+    omega (arith, ap (λ (r : Carried). r .sizes .held) (done .gathered .ensures), short)
 
 same-length : tie.Need-same-length
 same-length c = search needs
@@ -112,7 +121,7 @@ returns-3 c =
     let out = done .gathered .last .1 .1 .1 .1 .1 .0 in
     ap (λ (g : Gathered). leaves (given (toldGathered g)) store out) (c .changed .ensures)
     ∙ changed-whole (a .marks) (a .counter) (a .start) (now (a .payload)) (now (a .store)) (a .base) (now (a .out)) (s .pre .0) (new k .before .if1 .left) is-new
-    (jump k) (k .kept .result) (k .before .lost .result) (k .before .before .jumps .ensures) (k .kept .ensures) (k .before .lost .ensures)
+    (jump k) (k .kept .result) (k .before .lost .result) (k .before .before .before .jumps .ensures) (k .kept .ensures) (k .before .lost .ensures)
     (done .gathered .result) store out (done .gathered .ensures)
 
 pub accepted-spec : {M : Type 1} → statement M
@@ -125,6 +134,7 @@ accepted-spec =
     unchanged-requires-2
     returns-2
     jumps-requires
+    cast-held
     lost-requires
     kept-requires
     gathered-requires

@@ -6,7 +6,7 @@ use Rattle.gather.proofs.jumps.Statement.{statement}
 use Rattle.gather.proofs.jumps.Tie as tie
 
 add-result : tie.Need-add-result
-add-result c = omega (arith, sound-says (c .before .before .args .marks) (c .before .before .pre))
+add-result c = omega (arith, sound-says (c .before .before .before .args .marks) (c .before .before .before .pre))
 
 returns : tie.Need-returns
 returns c = let a = c .before .before .before .args in jumps-is (a .marks .seen) (a .marks .counter) (a .counter)

@@ -22,6 +22,9 @@ mul-area c = search needs
 array-copy-out-area : tie.Need-array-copy-out-area
 array-copy-out-area c = search needs
 
+cast-contradicts : tie.Need-cast-contradicts
+cast-contradicts c = search needs
+
 mul-contradicts : tie.Need-mul-contradicts
 mul-contradicts c = search needs
 
@@ -36,7 +39,7 @@ same-length c = search needs
 
 returns : tie.Need-returns
 returns c =
-    let a = c .before .before .before .before .before .before .before .before .before .before .args in
+    let a = c .before .before .before .before .before .before .before .before .before .before .before .args in
     let contradicts = c .before .before .contradicts in
     rw (c .unhandled .ensures)
     (sym (tests-contradict (a .state) (a .i) (now (a .bytes)) (now (a .store)) (now (a .out)) (sym (contradicts .ensures) ∙ c .before .if1 .taken)))
@@ -49,8 +52,8 @@ same-length-2 c = search needs
 
 returns-2 : tie.Need-returns-2
 returns-2 c =
-    let a = c .before .before .before .before .before .before .before .before .before .before .before .before .args in
-    let pre = c .before .before .before .before .before .before .before .before .before .before .before .before .pre in
+    let a = c .before .before .before .before .before .before .before .before .before .before .before .before .before .args in
+    let pre = c .before .before .before .before .before .before .before .before .before .before .before .before .before .pre in
     let contradicts = c .before .before .before .before .contradicts in
     let if1 = c .before .before .before .if1 in
     let scrambling : contents (now (a .bytes)) .scrambling ≡ a .packet .scrambling = ap (λ (q : Contents). q .scrambling) (read-same (now (a .bytes)) (a .packet) (pre .1 .1)) in
@@ -62,16 +65,16 @@ payload-start-requires c κs = search needs
 
 sub-payload : tie.Need-sub-payload
 sub-payload c =
-    let a = c .before .before .before .before .before .before .before .before .before .before .before .before .args in
-    let pre = c .before .before .before .before .before .before .before .before .before .before .before .before .pre in
+    let a = c .before .before .before .before .before .before .before .before .before .before .before .before .before .args in
+    let pre = c .before .before .before .before .before .before .before .before .before .before .before .before .before .pre in
     let inside = start-inside (now (a .bytes)) (a .packet) (pre .1 .1) in
     let at = c .payload-start .ensures in
     omega arith
 
 part-payload-start : tie.Need-part-payload-start
 part-payload-start c =
-    let a = c .before .before .before .before .before .before .before .before .before .before .before .before .args in
-    let pre = c .before .before .before .before .before .before .before .before .before .before .before .before .pre in
+    let a = c .before .before .before .before .before .before .before .before .before .before .before .before .before .args in
+    let pre = c .before .before .before .before .before .before .before .before .before .before .before .before .before .pre in
     let inside = start-inside (now (a .bytes)) (a .packet) (pre .1 .1) in
     let at = c .payload-start .ensures in
     omega arith
@@ -90,8 +93,8 @@ same-length-3 c = search needs
 
 returns-3 : tie.Need-returns-3
 returns-3 c =
-    let a = c .before .before .before .before .before .before .before .before .before .before .before .before .before .before .before .before .args in
-    let pre = c .before .before .before .before .before .before .before .before .before .before .before .before .before .before .before .before .pre in
+    let a = c .before .before .before .before .before .before .before .before .before .before .before .before .before .before .before .before .before .args in
+    let pre = c .before .before .before .before .before .before .before .before .before .before .before .before .before .before .before .before .before .pre in
     let contradicts = c .before .before .before .before .before .before .before .before .contradicts in
     let if1 = c .before .before .before .before .before .before .before .if1 in
     let if2 = c .before .before .before .before .before .if2 in
@@ -107,8 +110,8 @@ returns-3 c =
 
 gathered-requires : tie.Need-gathered-requires
 gathered-requires c κs =
-    let a = c .before .before .before .before .before .before .before .before .before .before .before .before .before .before .before .before .before .args in
-    let pre = c .before .before .before .before .before .before .before .before .before .before .before .before .before .before .before .before .before .pre in
+    let a = c .before .before .before .before .before .before .before .before .before .before .before .before .before .before .before .before .before .before .args in
+    let pre = c .before .before .before .before .before .before .before .before .before .before .before .before .before .before .before .before .before .before .pre in
     let payload-start = c .before .before .before .before .before .payload-start in
     let b = now (a .bytes) in
     let read = pre .1 .1 in
@@ -124,8 +127,8 @@ same-length-5 c = search needs
 
 returns-4 : tie.Need-returns-4
 returns-4 c =
-    let a = c .before .before .before .before .before .before .before .before .before .before .before .before .before .before .before .before .before .before .before .before .before .before .args in
-    let pre = c .before .before .before .before .before .before .before .before .before .before .before .before .before .before .before .before .before .before .before .before .before .before .pre in
+    let a = c .before .before .before .before .before .before .before .before .before .before .before .before .before .before .before .before .before .before .before .before .before .before .before .args in
+    let pre = c .before .before .before .before .before .before .before .before .before .before .before .before .before .before .before .before .before .before .before .before .before .before .before .pre in
     let contradicts = c .before .before .before .before .before .before .before .before .before .before .before .before .before .before .contradicts in
     let if1 = c .before .before .before .before .before .before .before .before .before .before .before .before .before .if1 in
     let if2 = c .before .before .before .before .before .before .before .before .before .before .before .if2 in
@@ -152,6 +155,7 @@ wanted-spec =
     (tie.spec
     mul-area
     array-copy-out-area
+    cast-contradicts
     mul-contradicts
     contradicts-requires
     unhandled-requires

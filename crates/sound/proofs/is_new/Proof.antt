@@ -1,51 +1,42 @@
--- What is left to test is what the answer hangs on: no filter passed has the number.
+-- What was met and what is left to compare are what the answer hangs on.
 -- Assumes nothing.
-use mathlib.Core.Path.{_≡_, sym, _∙_, ap}
-use mathlib.Core.Bool.{not}
-use Prim.Native.Nat.{_≤_, _-_, _<_}
+use mathlib.Core.Path.{_≡_, refl, sym, _∙_, ap}
+use mathlib.Core.Bool.{Bool, true, false, not, _&&_, _||_}
+use mathlib.Core.List.{List}
+use Prim.Native.Nat.{ℕ, _+_, _≤_, _-_}
+use native.Mathlib.Numerals.{add-one}
 use native.Mathlib.Omega.{arith}
-use lib.ListN.{length, take, drop}
-use lib.Seq.{length-take-le, getD-take}
+use lib.Dec.{eqb}
+use lib.ListN.{length, drop, getD, drop-of-length-le}
 use borrow.Author.Needs.{needs}
-use Rattle.ground.specs.Walk.{all}
-use Rattle.ground.proofs.Walk.{all-stops, all-goes, all-ends}
-use Rattle.state.specs.State.{freeFilter}
-use Rattle.state.specs.declared.Filter.{Filter}
-use Rattle.sound.specs.Sound.{sameNumber}
+use Rattle.ground.proofs.Walk.{all-turn}
+use Rattle.sound.specs.Steps.{isNew}
 use Rattle.sound.proofs.is_new.Statement.{statement}
 use Rattle.sound.proofs.is_new.Tie as tie
 
+-- met now, or met before and left
+step : (met here rest : Bool) → (not (met || here) && rest) ≡ (not met && (not here && rest))
+step true here rest = refl
+step false here rest = refl
+
+left-none : (b : Bool) → (b && true) ≡ b
+left-none true = refl
+left-none false = refl
+
 abbrev Inv-loop : tie.InvT-loop
-Inv-loop own place filters i₀ i =
-    (i ≤ place) × (all (λ g. not (sameNumber g own)) (take place filters) ≡ all (λ g. not (sameNumber g own)) (drop i (take place filters)))
+Inv-loop own others met₀ i₀ met i = (i ≤ length others) × ((not met && isNew own (drop i others)) ≡ isNew own others)
 
 abbrev μ-loop : tie.MeasureT-loop
-μ-loop own place filters i₀ i = place - i
+μ-loop own others met₀ i₀ met i = length others - i
 
 loop-holds : tie.Need-loop-holds Inv-loop μ-loop
 loop-holds c = search needs
 
-mul-other : tie.Need-mul-other Inv-loop μ-loop
-mul-other c = search needs
+mul-met : tie.Need-mul-met Inv-loop μ-loop
+mul-met c = search needs
 
-array-copy-out-other : tie.Need-array-copy-out-other Inv-loop μ-loop
-array-copy-out-other c = search needs
-
-same-number-requires : tie.Need-same-number-requires Inv-loop μ-loop
-same-number-requires c κs = search needs
-
-returns : tie.Need-returns Inv-loop μ-loop
-returns c =
-    let a = c .before .before .before .before .before .args in
-    let at = c .before .before .before .before .loop in
-    let l = a .t2 in
-    let long : length l ≡ 32 = search needs in
-    let inside : at .i < a .place = c .before .before .before .loop-test .taken in
-    let few = c .before .before .before .before .before .pre in
-    let first = length-take-le (a .place) l (omega arith) in
-    sym
-    (all-stops (λ g. not (sameNumber g (a .own))) (take (a .place) l) (at .i) _ (at .inv .1) freeFilter (rw first inside)
-    (ap (λ (g : Filter). not (sameNumber g (a .own))) (getD-take (a .place) l (at .i) freeFilter inside) ∙ ap not (sym (c .before .same-number .ensures) ∙ c .if1 .taken)))
+shared-slice-read-met : tie.Need-shared-slice-read-met Inv-loop μ-loop
+shared-slice-read-met c = search needs
 
 add-i : tie.Need-add-i Inv-loop μ-loop
 add-i c = search needs
@@ -55,40 +46,24 @@ loop-less c = search needs
 
 loop-again : tie.Need-loop-again Inv-loop μ-loop
 loop-again c =
-    let a = c .before .before .before .before .before .args in
-    let at = c .before .before .before .before .loop in
-    let l = a .t2 in
-    let long : length l ≡ 32 = search needs in
-    let inside : at .i < a .place = c .before .before .before .loop-test .taken in
-    let few = c .before .before .before .before .before .pre in
-    let first = length-take-le (a .place) l (omega arith) in (
+    let a = c .before .before .before .args in
+    let at = c .before .before .loop in
+    let l = a .others .now in (
       omega arith,
-      all-goes (λ g. not (sameNumber g (a .own))) (take (a .place) l) (at .i) _ (at .inv .1) freeFilter (rw first inside)
-          (ap (λ (g : Filter). not (sameNumber g (a .own))) (getD-take (a .place) l (at .i) freeFilter inside) ∙ ap not (sym (c .before .same-number .ensures) ∙ c .if1 .left)),
+      step (at .met) (eqb (getD l (at .i) 0) (a .own)) (isNew (a .own) (drop (at .i + 1) l))
+          ∙ ap (λ (b : Bool). not (at .met) && b)
+          (ap (λ (n : ℕ). not (eqb (getD l (at .i) 0) (a .own)) && isNew (a .own) (drop n l)) (add-one (at .i))
+          ∙ sym (all-turn (λ n. not (eqb n (a .own))) l (at .i) 0 (c .before .loop-test .taken)))
+          ∙ at .inv .1,
     )
 
-returns-2 : tie.Need-returns-2 Inv-loop μ-loop
-returns-2 c =
+returns : tie.Need-returns Inv-loop μ-loop
+returns c =
     let a = c .before .before .args in
-    let l = a .t2 in
-    let long : length l ≡ 32 = search needs in
-    let few = c .before .before .pre in
-    let out = c .loop-test .left in
-    let first = length-take-le (a .place) l (omega arith) in
-    sym (all-ends (λ g. not (sameNumber g (a .own))) (take (a .place) l) (c .before .loop .i) _ (c .before .loop .inv .1) (rw first out))
+    let at = c .before .loop in
+    let l = a .others .now in
+    let past : length l ≤ at .i = omega arith in
+    sym (left-none (not (at .met))) ∙ ap (λ (m : List ℕ). not (at .met) && isNew (a .own) m) (sym (drop-of-length-le l past)) ∙ at .inv .1
 
 pub is-new-spec : {M : Type 1} → statement M
-is-new-spec =
-    tie.close
-    (tie.spec
-    Inv-loop
-    μ-loop
-    loop-holds
-    mul-other
-    array-copy-out-other
-    same-number-requires
-    returns
-    add-i
-    loop-less
-    loop-again
-    returns-2)
+is-new-spec = tie.close (tie.spec Inv-loop μ-loop loop-holds mul-met shared-slice-read-met add-i loop-less loop-again returns)

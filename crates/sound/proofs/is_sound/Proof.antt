@@ -1,4 +1,4 @@
--- Each clause that fails makes the whole false; the last three are one answer.
+-- Each clause that fails makes the whole false; two clauses are one answer, and the last three are one.
 -- Assumes nothing.
 use mathlib.Core.Path.{sym, _∙_}
 use borrow.Author.Tests.{not-true, not-false}
@@ -27,49 +27,20 @@ returns-2 c =
       sym (c .before .areas-are-sound .ensures) ∙ not-true _ (c .if2 .taken),
     )
 
-pids-differ-requires : tie.Need-pids-differ-requires
-pids-differ-requires c κs = search needs
+places-are-sound-requires : tie.Need-places-are-sound-requires
+places-are-sound-requires c κs = search needs
 
 returns-3 : tie.Need-returns-3
 unfolding sound
 returns-3 c =
-    let next-is-sound = c .before .before .before .before .before .next-is-sound in
-    let if1 = c .before .before .before .before .if1 in
-    let areas-are-sound = c .before .before .before .areas-are-sound in
-    let if2 = c .before .before .if2 in
+    let next-is-sound = c .before .before .before .before .next-is-sound in
+    let if1 = c .before .before .before .if1 in
     rw (
       sym (next-is-sound .ensures) ∙ not-false _ (if1 .left),
-      sym (areas-are-sound .ensures) ∙ not-false _ (if2 .left),
-      sym (c .before .pids-differ .ensures) ∙ not-true _ (c .if3 .taken),
-    )
-
-places-are-sound-requires : tie.Need-places-are-sound-requires
-places-are-sound-requires c κs = search needs
-
-returns-4 : tie.Need-returns-4
-unfolding sound
-returns-4 c =
-    let next-is-sound = c .before .before .before .before .before .before .next-is-sound in
-    let if1 = c .before .before .before .before .before .if1 in
-    let areas-are-sound = c .before .before .before .before .areas-are-sound in
-    let if2 = c .before .before .before .if2 in
-    let pids-differ = c .before .before .pids-differ in
-    rw (
-      sym (next-is-sound .ensures) ∙ not-false _ (if1 .left),
-      sym (areas-are-sound .ensures) ∙ not-false _ (if2 .left),
-      sym (pids-differ .ensures) ∙ not-false _ (c .before .if3 .left),
+      sym (c .before .before .areas-are-sound .ensures) ∙ not-false _ (c .before .if2 .left),
     )
     (c .places-are-sound .ensures)
 
 pub is-sound-spec : {M : Type 1} → statement M
 is-sound-spec =
-    tie.close
-    (tie.spec
-    next-is-sound-requires
-    returns
-    areas-are-sound-requires
-    returns-2
-    pids-differ-requires
-    returns-3
-    places-are-sound-requires
-    returns-4)
+    tie.close (tie.spec next-is-sound-requires returns areas-are-sound-requires returns-2 places-are-sound-requires returns-3)

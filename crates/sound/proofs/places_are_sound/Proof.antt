@@ -1,107 +1,126 @@
 -- The pass finds the places in range, the users counted and the numbers apart; the three clauses follow from that.
 -- Assumes nothing.
-use mathlib.Core.Path.{_≡_, sym, _∙_}
+use mathlib.Core.Path.{_≡_, sym, _∙_, ap}
+use mathlib.Core.Bool.{true}
 use mathlib.Core.Logic.{⊎-elim}
-use Prim.Native.Nat.{_-_, _<_}
+use Prim.Native.Nat.{ℕ, _-_, _≤_, _<_}
 use native.Mathlib.Omega.{arith}
 use borrow.Author.Tests.{not-true, not-false}
-use lib.ListN.{length, getD}
+use lib.ListN.{length, drop, getD}
 use borrow.Author.Needs.{needs}
 use Rattle.ground.specs.Walk.{all}
 use Rattle.ground.proofs.Walk.{all-stops}
 use Rattle.state.specs.State.{freeFilter}
-use Rattle.sound.specs.Steps.{fitsPlace}
-use Rattle.sound.proofs.Pass.{Passed, passed-none, passed-unmet, passed-compared, passed-ranged, passed-counts, passed-apart, compared-same, counts-small, clauses-ranged, clauses-apart, clauses-left, open-inside}
+use Rattle.sound.specs.Steps.{fitsPlace, isZeroPlace}
+use Rattle.sound.proofs.Pass.{Passed, passed-none, passed-unmet, passed-compared, passed-met, passed-ranged, passed-counts, passed-apart, counts-small, clauses-ranged, clauses-apart, clauses-left, open-inside}
 use Rattle.sound.proofs.places_are_sound.Statement.{statement}
 use Rattle.sound.proofs.places_are_sound.Tie as tie
 
 abbrev Inv-loop : tie.InvT-loop
-Inv-loop areas next filters counts₀ met₀ i₀ counts met i = Passed next filters counts met i
+Inv-loop areas next filters end counts₀ met₀ numbers₀ i₀ counts met numbers i = Passed next filters counts met numbers i × (i ≤ end)
 
 abbrev μ-loop : tie.MeasureT-loop
-μ-loop areas next filters counts₀ met₀ i₀ counts met i = 32 - i
+μ-loop areas next filters end counts₀ met₀ numbers₀ i₀ counts met numbers i = end - i
+
+places-used-requires : tie.Need-places-used-requires Inv-loop μ-loop
+places-used-requires c κs = search needs
 
 loop-holds : tie.Need-loop-holds Inv-loop μ-loop
-loop-holds c = passed-none _ _
+loop-holds c = let a = c .before .args in let long : length (a .t2) ≡ 32 = search needs in (passed-none (a .next) (a .t2) long, omega arith)
 
 mul-filter : tie.Need-mul-filter Inv-loop μ-loop
 mul-filter c = search needs
 
 array-copy-out-filter : tie.Need-array-copy-out-filter Inv-loop μ-loop
-array-copy-out-filter c = search needs
+array-copy-out-filter c = let few = c .before .before .places-used .ensures .0 in search needs
 
 fits-place-requires : tie.Need-fits-place-requires Inv-loop μ-loop
 fits-place-requires c κs = search needs
 
 returns : tie.Need-returns Inv-loop μ-loop
 returns c =
-    let a = c .before .before .before .before .before .args in
-    let l = c .before .before .before .before .loop in
+    let a = c .before .before .before .before .before .before .args in
+    let at = c .before .before .before .before .loop in
     let eight : length (a .areas) ≡ 8 = search needs in
     let long : length (a .t2) ≡ 32 = search needs in
     sym
     (clauses-ranged (a .next) (a .areas) (a .t2) eight
-    (all-stops (fitsPlace (a .next)) (a .t2) (l .i) (all (fitsPlace (a .next)) (a .t2)) (l .inv .ranged) freeFilter (omega arith)
+    (all-stops (fitsPlace (a .next)) (a .t2) (at .i) (all (fitsPlace (a .next)) (a .t2)) (at .inv .0 .ranged) freeFilter (omega (arith, c .before .before .before .before .before .places-used .ensures .0))
     (sym (c .before .fits-place .ensures) ∙ not-true _ (c .if1 .taken))))
 
 tally-requires : tie.Need-tally-requires Inv-loop μ-loop
 tally-requires c κs =
-    let a = c .before .before .before .before .before .before .before .args in
-    let l = c .before .before .before .before .before .before .loop in
+    let a = c .before .before .before .before .before .before .before .before .args in
+    let at = c .before .before .before .before .before .before .loop in
     let fits = sym (c .before .before .before .fits-place .ensures) ∙ not-false _ (c .before .before .if1 .left) in
     let long : length (a .t2) ≡ 32 = search needs in (
-      open-inside (a .next) (getD (a .t2) (l .i) freeFilter) fits,
-      counts-small (a .next) (a .t2) (l .counts) (l .met) (l .i) long (l .inv),
+      open-inside (a .next) (getD (a .t2) (at .i) freeFilter) fits,
+      counts-small (a .next) (a .t2) (at .counts) (at .met) (at .numbers) (at .i) long (at .inv .0),
     )
+
+slice-aggregate-is-new : tie.Need-slice-aggregate-is-new Inv-loop μ-loop
+slice-aggregate-is-new c = search needs
 
 is-new-requires : tie.Need-is-new-requires Inv-loop μ-loop
 is-new-requires c κs = search needs
 
 returns-2 : tie.Need-returns-2 Inv-loop μ-loop
 returns-2 c =
-    let a = c .before .before .before .before .before .before .before .before .before .before .before .args in
-    let l = c .before .before .before .before .before .before .before .before .before .before .loop in
+    let a = c .before .before .before .before .before .before .before .before .before .before .before .before .before .args in
+    let at = c .before .before .before .before .before .before .before .before .before .before .before .loop in
     let eight : length (a .areas) ≡ 8 = search needs in
     let long : length (a .t2) ≡ 32 = search needs in
-    let here : l .i < length (a .t2) = rw long (c .before .before .before .before .before .before .before .before .before .loop-test .taken) in
-    sym (clauses-apart (a .next) (a .areas) (a .t2) eight (compared-same (a .t2) (l .i) here (sym (c .before .is-new .ensures) ∙ not-true _ (c .if3 .taken))))
+    let inside : at .i < 32 = omega (arith, c .before .before .before .before .before .before .before .before .before .before .before .before .places-used .ensures .0) in
+    sym
+    (clauses-apart (a .next) (a .areas) (a .t2) eight
+    (passed-met (a .next) (a .t2) (at .counts) (at .met) (at .numbers) (at .i) long (at .inv .0) inside (sym (c .before .before .before .before .tally .ensures .0) ∙ c .before .before .before .if2 .taken)
+    (sym (c .before .is-new .ensures) ∙ not-true _ (c .if3 .taken))))
+
+mul-numbers : tie.Need-mul-numbers Inv-loop μ-loop
+mul-numbers c = search needs
+
+array-write-numbers : tie.Need-array-write-numbers Inv-loop μ-loop
+array-write-numbers c = let few = c .before .before .before .before .before .before .before .before .before .places-used .ensures .0 in search needs
 
 add-i : tie.Need-add-i Inv-loop μ-loop
-add-i c = search needs
+add-i c = let few = c .before .before .before .before .before .before .before .before .before .places-used .ensures .0 in search needs
 
 loop-less : tie.Need-loop-less Inv-loop μ-loop
 loop-less c = search needs
 
 loop-again : tie.Need-loop-again Inv-loop μ-loop
 loop-again c =
-    let a = c .before .before .before .before .before .before .before .before .before .args in
-    let l = c .before .before .before .before .before .before .before .before .loop in
-    let inside = c .before .before .before .before .before .before .before .loop-test .taken in
+    let a = c .before .before .before .before .before .before .before .before .before .before .args in
+    let at = c .before .before .before .before .before .before .before .before .loop in
     let fits = sym (c .before .before .before .before .before .fits-place .ensures) ∙ not-false _ (c .before .before .before .before .if1 .left) in
     let tallied = c .before .tally .ensures in
     let long : length (a .t2) ≡ 32 = search needs in
-    rw (tallied .1, tallied .2)
-    (⊎-elim
-    (λ w. passed-compared (a .next) (a .t2) (l .counts) (l .met) (l .i) long (l .inv) inside fits (sym (w .1 .ensures) ∙ not-false _ (w .2 .left)))
-    (λ w. passed-unmet (a .next) (a .t2) (l .counts) (l .met) (l .i) long (l .inv) inside fits (sym (tallied .0) ∙ w .left))
-    (c .if2 .came))
+    let inside : at .i < 32 = omega (arith, c .before .before .before .before .before .before .before .before .before .places-used .ensures .0) in (
+      rw (tallied .1, tallied .2)
+          (⊎-elim
+          (λ w. passed-compared (a .next) (a .t2) (at .counts) (at .met) (at .numbers) (at .i) long (at .inv .0) inside fits (sym (w .2 .ensures) ∙ not-false _ (w .3 .left)))
+          (λ w. passed-unmet (a .next) (a .t2) (at .counts) (at .met) (at .numbers) (at .i) long (at .inv .0) inside fits (sym (tallied .0) ∙ w .left))
+          (c .if2 .came)),
+      omega arith,
+    )
 
 counts-agree-requires : tie.Need-counts-agree-requires Inv-loop μ-loop
 counts-agree-requires c κs = search needs
 
 returns-3 : tie.Need-returns-3 Inv-loop μ-loop
 returns-3 c =
-    let a = c .before .before .before .args in
-    let l = c .before .before .loop in
-    let end = c .before .loop-test .left in
+    let a = c .before .before .before .before .args in
+    let at = c .before .before .loop in
     let eight : length (a .areas) ≡ 8 = search needs in
     let long : length (a .t2) ≡ 32 = search needs in
+    let done : at .i ≡ c .before .before .before .places-used .result = omega (arith, c .before .loop-test .left, at .inv .1) in
+    let zeros : all isZeroPlace (drop (at .i) (a .t2)) ≡ true = ap (λ (n : ℕ). all isZeroPlace (drop n (a .t2))) done ∙ c .before .before .before .places-used .ensures .1 in
     c .counts-agree .ensures
-    ∙ passed-counts (a .next) (a .t2) (l .counts) (l .met) (l .i) long (l .inv) end (a .areas) eight
+    ∙ passed-counts (a .next) (a .t2) (at .counts) (at .met) (at .numbers) (at .i) long (at .inv .0) zeros (a .areas) eight
     ∙ sym
     (clauses-left (a .next) (a .areas) (a .t2) eight
-    (passed-ranged (a .next) (a .t2) (l .counts) (l .met) (l .i) long (l .inv) end)
-    (passed-apart (a .next) (a .t2) (l .counts) (l .met) (l .i) long (l .inv) end))
+    (passed-ranged (a .next) (a .t2) (at .counts) (at .met) (at .numbers) (at .i) long (at .inv .0) zeros)
+    (passed-apart (a .next) (a .t2) (at .counts) (at .met) (at .numbers) (at .i) long (at .inv .0) zeros))
 
 pub places-are-sound-spec : {M : Type 1} → statement M
 places-are-sound-spec =
@@ -109,14 +128,18 @@ places-are-sound-spec =
     (tie.spec
     Inv-loop
     μ-loop
+    places-used-requires
     loop-holds
     mul-filter
     array-copy-out-filter
     fits-place-requires
     returns
     tally-requires
+    slice-aggregate-is-new
     is-new-requires
     returns-2
+    mul-numbers
+    array-write-numbers
     add-i
     loop-less
     loop-again

@@ -35,9 +35,6 @@ element-write-counts c =
     let if1 = c .before .before .if1 in
     pre .0 (ap not (ne-eqb _ _ (if1 .left)))
 
-add-class : tie.Need-add-class
-add-class c = search needs
-
 cast-class : tie.Need-cast-class
 cast-class c = search needs
 
@@ -62,7 +59,6 @@ tally-spec =
     element-copy-out-counts
     add-counts
     element-write-counts
-    add-class
     cast-class
     element-copy-out-before
     element-write-met

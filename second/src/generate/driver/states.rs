@@ -79,8 +79,8 @@ pub fn one_pid(random: &mut Random, pid: u16, held: usize, counter: u8) -> (Stat
     state.areas[index] = Area {
         pid,
         users: filters as u8,
-        held: held as u64,
-        seen: true,
+        held: held as u16,
+        seen: 1,
         counter,
     };
     (state, index)
@@ -96,8 +96,8 @@ fn used_area(random: &mut Random, state: &State) -> Area {
     Area {
         pid,
         users: 1,
-        held: if seen { held_count(random) as u64 } else { 0 },
-        seen,
+        held: if seen { held_count(random) as u16 } else { 0 },
+        seen: u8::from(seen),
         counter: if seen { random.below(16) as u8 } else { 0 },
     }
 }

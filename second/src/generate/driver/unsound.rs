@@ -28,6 +28,7 @@ const BREAKS: [(Clause, Break); CLAUSES.len()] = [
     (soundness::held_bytes_are_below_a_whole_area, break_held),
     (soundness::areas_without_counter_hold_nothing, break_unseen),
     (soundness::areas_with_counter_have_four_bits, break_counters),
+    (soundness::marks_of_a_counter_are_0_or_1, break_marks),
     (soundness::open_filters_stand_on_used_areas, break_standing),
     (soundness::free_records_are_zero, break_free),
 ];
@@ -174,13 +175,13 @@ fn break_users(random: &mut Random, state: &mut State) {
 }
 
 fn break_held(random: &mut Random, state: &mut State) {
-    if let Some((_, area)) = chosen(random, state, |area| area.used() && area.seen) {
-        area.held = random.pick(&[4_096, 4_097, 65_536, 1 << 32, u64::MAX]);
+    if let Some((_, area)) = chosen(random, state, |area| area.used() && area.has_seen()) {
+        area.held = random.pick(&[4_096, 4_097, 8_191, 65_535]);
     }
 }
 
 fn break_unseen(random: &mut Random, state: &mut State) {
-    if let Some((_, area)) = chosen(random, state, |area| area.used() && !area.seen) {
+    if let Some((_, area)) = chosen(random, state, |area| area.used() && !area.has_seen()) {
         if random.one_in(2) {
             area.held = random.pick(&[1, 3, 4_095]);
         } else {
@@ -190,8 +191,14 @@ fn break_unseen(random: &mut Random, state: &mut State) {
 }
 
 fn break_counters(random: &mut Random, state: &mut State) {
-    if let Some((_, area)) = chosen(random, state, |area| area.used() && area.seen) {
+    if let Some((_, area)) = chosen(random, state, |area| area.used() && area.has_seen()) {
         area.counter = random.pick(&[16, 17, 128, 255]);
+    }
+}
+
+fn break_marks(random: &mut Random, state: &mut State) {
+    if let Some((_, area)) = chosen(random, state, Area::used) {
+        area.seen = random.pick(&[2, 3, 128, 255]);
     }
 }
 
@@ -252,13 +259,13 @@ fn break_free(random: &mut Random, state: &mut State) {
     let place = some_place(random, state, false);
     match (random.below(5), area, place) {
         (0, Some(area), _) => state.areas[area].pid = random.pick(&[1, 0x1FFE, 0xFFFF]),
-        (1, Some(area), _) => state.areas[area].seen = true,
+        (1, Some(area), _) => state.areas[area].seen = random.pick(&[1, 2, 255]),
         (2, Some(area), _) => {
-            state.areas[area].seen = true;
+            state.areas[area].seen = 1;
             state.areas[area].held = random.pick(&[1, 4_095]);
         }
         (3, Some(area), _) => {
-            state.areas[area].seen = true;
+            state.areas[area].seen = 1;
             state.areas[area].counter = random.pick(&[1, 15]);
         }
         (_, _, Some(place)) => state.places[place].area = random.pick(&[1, 7, 8, 255]),
@@ -275,7 +282,7 @@ pub fn shaken(random: &mut Random, script: &mut Script) {
         0 => area.pid = random.pick(&[0, 0x1FFE, 0x1FFF]),
         1 => area.users = random.below(4) as u8,
         2 => area.held = random.pick(&[0, 1, 4_095, 4_096]),
-        3 => area.seen = !area.seen,
+        3 => area.seen = random.pick(&[0, 1, 2, 255]),
         4 => area.counter = random.pick(&[0, 15, 16]),
         5 => *area = Area::default(),
         6 => state.next = random.pick(&[0, 1, 2, 33, 65_535, 65_536, 65_537]),

@@ -7,10 +7,10 @@ use Rattle.bench.proofs.filters.opened.Statement.{statement}
 use Rattle.bench.proofs.filters.opened.Tie as tie
 
 abbrev Inv-loop : tie.InvT-loop
-Inv-loop is-many is-any state₀ i₀ state i = i ≤ 32
+Inv-loop is-many numbers state₀ i₀ state i = i ≤ 32
 
 abbrev μ-loop : tie.MeasureT-loop
-μ-loop is-many is-any state₀ i₀ state i = 32 - i
+μ-loop is-many numbers state₀ i₀ state i = 32 - i
 
 fresh-requires : tie.Need-fresh-requires Inv-loop μ-loop
 fresh-requires c κs = search needs
