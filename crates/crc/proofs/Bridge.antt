@@ -17,7 +17,7 @@ use Rattle.crc.specs.Claims.{RightResidue}
 use Rattle.crc_table.specs.Table.{shiftOf}
 use Rattle.crc.specs.Steps.{enterBits, enterBytes}
 use Rattle.ground.proofs.Xor.{xor-bit}
-use Rattle.crc.proofs.Shift.{shift-small}
+use Rattle.crc_table.proofs.Linear.{shift-small}
 
 bit-lt : (z : Bool) → cond z 1 0 < 2
 bit-lt true = lit< tt

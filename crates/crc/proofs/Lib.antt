@@ -1,5 +1,4 @@
 pub mod Examples
-pub mod Shift
 pub mod Bridge
 pub mod Rule
 pub mod Claims

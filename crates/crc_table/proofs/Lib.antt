@@ -1,2 +1,3 @@
+pub mod Linear
 pub mod Rule
 pub mod Claims

@@ -1,8 +1,8 @@
 -- What is claimed of the promise, and proved.
 use Prim.Native.Nat.{ℕ}
 use Rattle.ground.specs.Outcome.{Determined}
-use Rattle.crc_table.specs.Promises.{GivesEntry}
+use Rattle.crc_table.specs.Promises.{GivesThrough}
 
 pub record Claims : Type 0 where
   -- any two outcomes that the promise admits are equal
-  pub givesEntry : (key : ℕ) → Determined (GivesEntry key)
+  pub givesThrough : (register : ℕ) → Determined (GivesThrough register)

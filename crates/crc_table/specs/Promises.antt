@@ -1,8 +1,8 @@
 -- What the public call promises.
 use mathlib.Core.Path.{_≡_}
 use Prim.Native.Nat.{ℕ}
-use Rattle.crc_table.specs.Table.{entryOf}
+use Rattle.crc_table.specs.Table.{shifts}
 
--- `entry` for a key
-abbrev pub GivesEntry : ℕ → ℕ → Type 0
-GivesEntry key r = r ≡ entryOf key
+-- `through` for a register
+abbrev pub GivesThrough : ℕ → ℕ → Type 0
+GivesThrough register r = r ≡ shifts 32 register

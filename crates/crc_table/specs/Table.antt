@@ -1,4 +1,4 @@
--- The table of CRC_32 (H.222.0 Annex A), for a register that is held with every bit turned over: a number below 2 ^ 32 whose most significant bit is z(31).
+-- The shift of CRC_32's register (H.222.0 Annex A): a number below 2 ^ 32 whose most significant bit is z(31).
 use Prim.Native.Nat.{ℕ, zero, suc, _*_, _/_, _%_, _^_}
 use lib.Bits.{bitXor}
 
@@ -10,7 +10,3 @@ shiftOf v = bitXor (v * 2 % 2 ^ 32) (v / 2 ^ 31 % 2 * 0x04C11DB7)
 abbrev pub shifts : ℕ → ℕ → ℕ
 shifts zero v = v
 shifts (suc n) v = shifts n (shiftOf v)
-
--- the entry for a key: eight shifts of the byte `key + 127` (modulo 2, bit by bit) at the register's top, with the eight bits that come in turned over
-abbrev pub entryOf : ℕ → ℕ
-entryOf key = bitXor (shifts 8 (bitXor key 127 * 2 ^ 24)) 255

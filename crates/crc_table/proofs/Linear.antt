@@ -1,18 +1,14 @@
 -- The register's shifts are linear over `bitXor`: what they make of a sum is the sum of what they make of its parts.
 -- Assumes nothing.
 use mathlib.Core.Path.{_≡_, refl, sym, _∙_, ap, ap₂}
-use mathlib.Core.Bool.{Bool, cond}
-use mathlib.Core.List.{List, [], _∷_}
-use Prim.Native.Nat.{ℕ, zero, suc, _*_, _/_, _%_, _^_, _<_}
-use native.Mathlib.Nat.{mod-lt, mod-eq-of-lt, mul-assoc, pow-suc, mul-comm, mul-one, mul-le-mul-left}
+use Prim.Native.Nat.{ℕ, zero, suc, _+_, _*_, _/_, _%_, _^_, _<_}
+use native.Mathlib.Nat.{zero-add, suc-add, mod-lt, mod-eq-of-lt, mul-assoc, pow-suc, mul-comm, mul-one, mul-le-mul-left}
 use native.Mathlib.Omega.{arith}
 use lib.Dec.{lit<}
-use lib.ListN.{length}
-use lib.Pow.{pow-pos}
-use lib.Bits.{bitXor, xor-mod, xor-shr, xor-zero-r, xor-comm}
+use lib.Pow.{pow-pos, pow-add}
+use lib.Bits.{bitXor, xor-mod, xor-shr, xor-zero-r}
 use Rattle.crc_table.specs.Table.{shiftOf, shifts}
-use Rattle.crc.specs.Steps.{enterBits}
-use Rattle.ground.proofs.Xor.{bit-cases, xor-assoc, xor-swap, xor-shl}
+use Rattle.ground.proofs.Xor.{bit-cases, xor-swap, xor-shl}
 
 -- the polynomial, added or not
 poly-xor : (x y : ℕ) → x < 2 → y < 2 → bitXor x y * 0x04C11DB7 ≡ bitXor (x * 0x04C11DB7) (y * 0x04C11DB7)
@@ -34,6 +30,11 @@ pub shifts-xor : (n a b : ℕ) → shifts n (bitXor a b) ≡ bitXor (shifts n a)
 shifts-xor zero a b = refl
 shifts-xor (suc n) a b = ap (shifts n) (shift-xor a b) ∙ shifts-xor n (shiftOf a) (shiftOf b)
 
+-- shifts one after the other
+pub shifts-add : (m n v : ℕ) → shifts n (shifts m v) ≡ shifts (m + n) v
+shifts-add zero n v = ap (λ (x : ℕ). shifts x v) (sym (zero-add n))
+shifts-add (suc m) n v = shifts-add m n (shiftOf v) ∙ ap (λ (x : ℕ). shifts x v) (sym (suc-add m n))
+
 -- where no bit leaves the register a shift doubles it
 pub shift-small : (v : ℕ) → v < 2 ^ 31 → shiftOf v ≡ v * 2
 unfolding shiftOf
@@ -49,14 +50,8 @@ shifts-small (suc n) v h =
     let k = rw e at h in
     ap (shifts n) (shift-small v (omega (arith, mul-le-mul-left (v * 2) (pow-pos n)))) ∙ shifts-small n (v * 2) k ∙ sym e
 
--- bits go in: their own share, and the share of what the register held
-pub enter-xor : (bs : List Bool) (v : ℕ) → enterBits v bs ≡ bitXor (enterBits 0 bs) (shifts (length bs) v)
-enter-xor [] v = refl
-enter-xor (b ∷ bs) v =
-    let i = cond b 1 0 * 2 ^ 31 in
-    let n = length bs in
-    enter-xor bs (shiftOf (bitXor v i))
-    ∙ ap (λ (x : ℕ). bitXor (enterBits 0 bs) (shifts n x)) (shift-xor v i)
-    ∙ ap (λ (x : ℕ). bitXor (enterBits 0 bs) x) (shifts-xor n (shiftOf v) (shiftOf i) ∙ xor-comm (shifts n (shiftOf v)) (shifts n (shiftOf i)))
-    ∙ sym (xor-assoc (enterBits 0 bs) (shifts n (shiftOf i)) (shifts n (shiftOf v)))
-    ∙ ap (λ (x : ℕ). bitXor x (shifts n (shiftOf v))) (sym (enter-xor bs (shiftOf i)))
+-- a byte moves up to the register's top
+pub shifts-top : (n m b : ℕ) → n + m ≡ 24 → b < 256 → shifts m (b * 2 ^ n) ≡ b * 2 ^ 24
+shifts-top n m b e h =
+    let place : b * 2 ^ n * 2 ^ m ≡ b * 2 ^ 24 = mul-assoc b (2 ^ n) (2 ^ m) ∙ ap (λ (x : ℕ). b * x) (sym (pow-add 2 n m) ∙ ap (λ (x : ℕ). 2 ^ x) e) in
+    shifts-small m (b * 2 ^ n) (omega arith) ∙ place
