@@ -7,7 +7,7 @@ use std::io::{self, BufRead, Write};
 const LEAST: u64 = 20_000;
 
 /// Each call word with the refusals that its order in document 01 has.
-const CALLS: [(&str, &[u32]); 21] = [
+const CALLS: [(&str, &[u32]); 22] = [
     ("open", &[1, 12, 13, 14, 15]),
     ("close", &[1, 16]),
     ("packet", &[1, 3, 2, 4, 5, 6, 7, 8, 9, 10, 11]),
@@ -18,6 +18,7 @@ const CALLS: [(&str, &[u32]); 21] = [
     ("programs", &[3, 20, 23, 21, 25, 22, 24, 26]),
     ("pmt", &[20, 23, 21, 25, 22, 24, 26]),
     ("pmtitem", &[20, 23, 21, 25, 22, 24, 26, 27]),
+    ("streams", &[3, 20, 23, 21, 25, 22, 24, 26]),
     ("outer", &[20, 23, 21, 25, 22, 24, 26, 27]),
     ("inner", &[20, 23, 21, 25, 22, 24, 26, 27]),
     ("loop", &[26, 27]),

@@ -7,6 +7,9 @@ use crate::refusal_numbers::{demand, Refusal};
 /// The most entries that a PAT can have.
 const MOST_PROGRAMS: usize = 253;
 
+/// The most entries that a PMT can have.
+const MOST_STREAMS: usize = 201;
+
 /// The fields of bytes 3 to 7.
 #[derive(Clone, Copy, Debug, PartialEq, Eq)]
 pub struct Common {
@@ -31,18 +34,26 @@ pub struct Descriptor {
     pub size: usize,
 }
 
+/// Where the bytes of a descriptor loop start and how many there are, and what stands in them.
+#[derive(Clone, Debug, PartialEq, Eq)]
+pub struct DescriptorLoop {
+    pub start: usize,
+    pub size: usize,
+    pub descriptors: Vec<Descriptor>,
+}
+
 #[derive(Clone, Debug, PartialEq, Eq)]
 pub struct Stream {
     pub kind: u64,
     pub pid: u64,
-    pub descriptors: Vec<Descriptor>,
+    pub inner: DescriptorLoop,
 }
 
 #[derive(Clone, Debug, PartialEq, Eq)]
 pub struct StreamTable {
     pub common: Common,
     pub clock_pid: u64,
-    pub descriptors: Vec<Descriptor>,
+    pub outer: DescriptorLoop,
     pub streams: Vec<Stream>,
 }
 
@@ -127,37 +138,36 @@ pub fn descriptor_at(bytes: &[u8], place: u64) -> Result<Descriptor, Refusal> {
 pub fn read_stream_table(section: &[u8]) -> Result<StreamTable, Refusal> {
     let common = read_common(section, 2, 13)?;
     let end = section.len() - 4;
-    let (descriptors, mut at) = read_loop(section, 10, end)?;
+    let outer = read_loop(section, 10, end)?;
+    let mut at = outer.start + outer.size;
     let mut streams = Vec::new();
     while at < end {
         demand(at + 5 <= end, 26)?;
-        let (inner, next) = read_loop(section, at + 3, end)?;
+        let inner = read_loop(section, at + 3, end)?;
+        let next = inner.start + inner.size;
         streams.push(Stream {
             kind: number_in(section, at, 1),
             pid: number_in(section, at + 1, 2) % 8_192,
-            descriptors: inner,
+            inner,
         });
         at = next;
     }
     Ok(StreamTable {
         common,
         clock_pid: number_in(section, 8, 2) % 8_192,
-        descriptors,
+        outer,
         streams,
     })
 }
 
-/// The descriptors behind the length field at the place, and the place behind them.
-fn read_loop(
-    section: &[u8],
-    field: usize,
-    end: usize,
-) -> Result<(Vec<Descriptor>, usize), Refusal> {
+/// The descriptor loop behind the length field at the place.
+fn read_loop(section: &[u8], field: usize, end: usize) -> Result<DescriptorLoop, Refusal> {
     let length = number_in(section, field, 2) as usize % 4_096;
-    let behind = field + 2 + length;
+    let start = field + 2;
+    let behind = start + length;
     demand(length < 1_024 && behind <= end, 26)?;
     let mut descriptors = Vec::new();
-    let mut at = field + 2;
+    let mut at = start;
     while at < behind {
         demand(at + 2 <= behind, 26)?;
         let size = usize::from(section[at + 1]);
@@ -169,7 +179,17 @@ fn read_loop(
         at += 2 + size;
     }
     demand(at == behind, 26)?;
-    Ok((descriptors, behind))
+    Ok(DescriptorLoop {
+        start,
+        size: length,
+        descriptors,
+    })
+}
+
+/// The whole table, where the four lists have a place for each entry that a table can have.
+pub fn list_streams(section: &[u8], lists: [usize; 4]) -> Result<StreamTable, Refusal> {
+    demand(lists.iter().all(|places| *places >= MOST_STREAMS), 3)?;
+    read_stream_table(section)
 }
 
 pub fn stream_entry(section: &[u8], index: usize) -> Result<Stream, Refusal> {
@@ -179,10 +199,20 @@ pub fn stream_entry(section: &[u8], index: usize) -> Result<Stream, Refusal> {
 
 pub fn outer_descriptor(section: &[u8], index: usize) -> Result<Descriptor, Refusal> {
     let table = read_stream_table(section)?;
-    table.descriptors.get(index).copied().ok_or(Refusal(27))
+    table
+        .outer
+        .descriptors
+        .get(index)
+        .copied()
+        .ok_or(Refusal(27))
 }
 
 pub fn inner_descriptor(section: &[u8], entry: usize, index: usize) -> Result<Descriptor, Refusal> {
     let stream = stream_entry(section, entry)?;
-    stream.descriptors.get(index).copied().ok_or(Refusal(27))
+    stream
+        .inner
+        .descriptors
+        .get(index)
+        .copied()
+        .ok_or(Refusal(27))
 }

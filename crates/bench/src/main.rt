@@ -1,4 +1,5 @@
 // Calls the driver, CRC_32 and the tables on bytes that it makes itself, so that what a call costs can be counted: docs/COST.md has the scenarios.
+mod at_once;
 mod filters;
 mod made;
 mod packets;
@@ -30,7 +31,12 @@ fn new_text() -> [u8; 128]
 
 // Whether a letter says what to call.
 fn is_what(letter: u8) -> bool {
-    (letter == b'p') | (letter == b'c') | (letter == b'a') | (letter == b'm')
+    (letter == b'p')
+        | (letter == b'c')
+        | (letter == b'a')
+        | (letter == b'b')
+        | (letter == b'm')
+        | (letter == b'n')
 }
 
 // Whether the letters are a scenario.
@@ -98,7 +104,7 @@ fn main() {
     } else {
         io::write_all(
             STDERR_FILENO,
-            b"usage: bench, and five letters on standard input: one of p c a m, of 0 1 2, of 1 3, of n a w, and a digit\n",
+            b"usage: bench, and five letters on standard input: one of p c a b m n, of 0 1 2, of 1 3, of n a w, and a digit\n",
         );
     }
 }

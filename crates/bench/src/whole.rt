@@ -1,7 +1,8 @@
-// CRC_32 of bytes, and a PAT and a PMT read whole by the calls by index.
+// CRC_32 of bytes, and a PAT and a PMT read whole: by the calls by index here, in one call beside.
 ghost use mathlib.Core.Path.{_≡_};
 ghost use Prim.Native.Nat.{_+_, _≤_, _<_};
 ghost use lib.ListN.{length};
+use crate::at_once;
 use crate::made;
 use tables::PatEntry;
 use tables::PatHeader;
@@ -10,13 +11,13 @@ use tables::PmtEntry;
 use tables::PmtHeader;
 
 // The longest PAT or PMT, and behind it a byte that is written after each call: without it the compiler would take one CRC_32 for all calls.
-type Room = [u8; 1025];
+pub(crate) type Room = [u8; 1025];
 
 // The PAT's size: 253 entries.
-const PAT_BYTES: usize = 1024;
+pub(crate) const PAT_BYTES: usize = 1024;
 
 // The PMT's size: 2 descriptors of the program, and 10 entries with 3 descriptors each.
-const PMT_BYTES: usize = 258;
+pub(crate) const PMT_BYTES: usize = 258;
 
 // A room of zeros.
 fn zeros() -> Room
@@ -26,7 +27,7 @@ fn zeros() -> Room
 }
 
 // A sum with a further answer, which is also noted behind the section.
-fn noted(room: &mut Room, sum: u64, answer: u64) -> u64 {
+pub(crate) fn noted(room: &mut Room, sum: u64, answer: u64) -> u64 {
     let next = std::num::wrapping_add_u64(sum, answer);
     room[1024] = (next % 256) as u8;
     next
@@ -113,7 +114,7 @@ fn of_program(entry: PatEntry) -> u64 {
 }
 
 // What a PAT's header adds to the sum.
-fn of_pat(header: PatHeader) -> u64 {
+pub(crate) fn of_pat(header: PatHeader) -> u64 {
     match header {
         PatHeader::Header { head: _, entries } => entries as u64,
         PatHeader::Refused(_) => 0,
@@ -200,11 +201,13 @@ fn read_pmt(room: &mut Room, sum: u64) -> u64 {
     now
 }
 
-// A round: the PAT or the PMT read whole, or CRC_32 of 1,024 bytes.
+// A round: the PAT or the PMT read whole, by index or in one call, or CRC_32 of 1,024 bytes.
 fn round(what: u8, room: &mut Room, sum: u64) -> u64 {
     match what {
         b'a' => read_pat(room, sum),
         b'm' => read_pmt(room, sum),
+        b'b' => at_once::read_pat(room, sum),
+        b'n' => at_once::read_pmt(room, sum),
         _ => {
             let residue = crc::residue(text::first(room, PAT_BYTES));
             noted(room, sum, residue as u64)
@@ -216,10 +219,10 @@ fn round(what: u8, room: &mut Room, sum: u64) -> u64 {
 pub(crate) fn read(what: u8, rounds: u8) -> u64 {
     let mut room = zeros();
     made::fill(&mut room, 1);
-    if what == b'a' {
+    if (what == b'a') | (what == b'b') {
         make_pat(&mut room);
     }
-    if what == b'm' {
+    if (what == b'm') | (what == b'n') {
         make_pmt(&mut room);
     }
     let mut sum = 0;

@@ -24,6 +24,11 @@ pub(crate) fn marked() -> Numbers {
     [43_690; 256]
 }
 
+// The same of bytes.
+pub(crate) fn marked_bytes() -> [u8; 256] {
+    [170; 256]
+}
+
 // The lesser of two numbers.
 pub(crate) fn least(a: usize, b: usize) -> usize
     ensures { λ r. ⌜ r ≤ b ⌝ }

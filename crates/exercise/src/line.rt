@@ -202,6 +202,11 @@ impl Line {
     pub(crate) fn within(self, first: u64, second: u64) -> bool {
         (self.numbers[0] <= first) & (self.numbers[1] <= second)
     }
+
+    // Whether the first four numbers are at most this.
+    pub(crate) fn all_within(self, most: u64) -> bool {
+        self.within(most, most) & (self.numbers[2] <= most) & (self.numbers[3] <= most)
+    }
 }
 
 // A hexadecimal digit's value, and 16 where it is none.

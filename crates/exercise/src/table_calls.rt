@@ -9,6 +9,7 @@ use tables::PatHeader;
 use tables::PmtDescriptor;
 use tables::PmtEntry;
 use tables::PmtHeader;
+use tables::PmtListed;
 
 // The outcome of a line; one that no other part knows is bad.
 pub(crate) fn answer(line: Line, bytes: &[u8], text: &mut [u8], at: usize) -> usize {
@@ -32,6 +33,9 @@ pub(crate) fn answer(line: Line, bytes: &[u8], text: &mut [u8], at: usize) -> us
     }
     if line.is(b"programs", 2, true) & line.within(256, 256) {
         return programs(bytes, first as usize, second as usize, text, at);
+    }
+    if line.is(b"streams", 4, true) & line.all_within(256) {
+        return streams(bytes, n, text, at);
     }
     if line.is(b"patitem", 1, true) {
         return pat_item(bytes, first, text, at);
@@ -135,6 +139,49 @@ fn pmt(bytes: &[u8], text: &mut [u8], at: usize) -> usize {
             outcome::numbers(text, end, &row)
         }
     }
+}
+
+// The answer for a whole PMT.
+fn listed_fields(answer: PmtListed, text: &mut [u8], at: usize) -> usize {
+    match answer {
+        PmtListed::Refused(n) => outcome::refused(text, at, n),
+        PmtListed::Listed {
+            head,
+            pcr_pid,
+            start,
+            size,
+            entries,
+        } => {
+            let row = [pcr_pid.0 as u64, start as u64, size as u64, entries as u64];
+            let end = head_fields(head, text, at);
+            outcome::numbers(text, end, &row)
+        }
+    }
+}
+
+// All entries of a PMT, written to the first places of four lists.
+fn streams(bytes: &[u8], n: [u64; 6], text: &mut [u8], at: usize) -> usize {
+    let mut types = buffers::marked_bytes();
+    let mut pids = buffers::marked();
+    let mut starts = buffers::marked();
+    let mut sizes = buffers::marked();
+    let answer = tables::pmt_entries(
+        bytes,
+        buffers::first_mut(&mut types, n[0] as usize),
+        buffers::first_places(&mut pids, n[1] as usize),
+        buffers::first_places(&mut starts, n[2] as usize),
+        buffers::first_places(&mut sizes, n[3] as usize),
+    );
+    let end = text::word(text, at, b"streams");
+    let end = listed_fields(answer, text, end);
+    let end = outcome::word(text, end, b"lists");
+    let row = [
+        outcome::digest(&types),
+        outcome::digest_of_numbers(&pids),
+        outcome::digest_of_numbers(&starts),
+        outcome::digest_of_numbers(&sizes),
+    ];
+    outcome::numbers(text, end, &row)
 }
 
 // An entry of a PMT.

@@ -159,6 +159,13 @@ module _ {ℓ} {A : Type ℓ} where
       go j h (yes r) = ap (λ (k : ℕ). p (getD (set l i x) k d)) r ∙ ap p (getD-set-same l i x d (rw r at h)) ∙ q
       go j h (no n) = ap p (getD-set-other l i j x d n) ∙ all-at p l d e j h
 
+-- ---- what a list is made into, by its index
+module _ {ℓ ℓ′} {A : Type ℓ} {B : Type ℓ′} (f : A → B) where
+  pub map-at : (l : List A) (i : ℕ) (d : A) (z : B) → i < length l → getD (map f l) i z ≡ f (getD l i d)
+  map-at [] i d z h = absurd (not-suc-le-zero h)
+  map-at (x ∷ xs) zero d z h = refl
+  map-at (x ∷ xs) (suc i) d z h = map-at xs i d z (le-of-suc-le-suc h)
+
 -- ---- Every
 module _ {ℓ} {A : Type ℓ} (P : A → Type 0) where
   pub every-at : (l : List A) (d : A) → Every P l → (i : ℕ) → i < length l → P (getD l i d)

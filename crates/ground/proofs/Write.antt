@@ -4,10 +4,11 @@ use mathlib.Core.Path.{_≡_, refl, sym, _∙_, ap}
 use mathlib.Core.List.{List, [], _++_, append-assoc}
 use Prim.Native.Nat.{ℕ, suc, _+_, _≤_, _<_}
 use native.Mathlib.Omega.{arith}
-use native.Mathlib.Nat.{add-zero, add-assoc}
+use native.Mathlib.Nat.{add-zero, zero-add, add-assoc}
+use native.Mathlib.Numerals.{add-one}
 use lib.ListN.{length, getD, take, drop, set, length-append, length-take, length-drop, take-append-drop, List·getD-append}
 use lib.Seq.{take-at, drop-at, drop-drop, length-take-le, getD-drop, getD-take, sets, sets-eq, paste-suc}
-use Rattle.ground.specs.Write.{put}
+use Rattle.ground.specs.Write.{put, Rest}
 
 module _ {ℓ} {A : Type ℓ} where
   -- a write of nothing changes nothing
@@ -98,3 +99,27 @@ module _ {ℓ} {A : Type ℓ} where
   put-turn d at s j z p q =
       rw (length-take-le j s (omega arith), length-take-le (suc j) s (omega arith))
       (simp append-assoc at (paste-suc d at s j z p q))
+
+  -- ---- a list that is written from its start on
+  -- one turn: the next element is stored after those that stand written
+  pub stored : (d s : List A) (i : ℕ) (a z : A) → i < length d → i < length s → a ≡ getD s i z → set (put d 0 (take i s)) i a ≡ put d 0 (take (i + 1) s)
+  stored d s i a z p q e =
+      ap (λ (k : ℕ). set (put d 0 (take i s)) k a) (sym (zero-add i))
+      ∙ ap (λ (x : A). set (put d 0 (take i s)) (0 + i) x) e
+      ∙ put-turn d 0 s i z (omega arith) q
+      ∙ ap (λ (k : ℕ). put d 0 (take k s)) (sym (add-one i))
+
+  module _ (d s : List A) (h : length s ≤ length d) where
+    room : 0 + length s ≤ length d
+    room = omega arith
+
+    -- an element that was written
+    pub put-item : (i : ℕ) (z : A) → i < length s → getD (put d 0 s) i z ≡ getD s i z
+    put-item i z l = ap (λ (k : ℕ). getD (put d 0 s) k z) (sym (zero-add i)) ∙ getD-inside d 0 s room i z l
+
+    -- and the rest
+    pub put-rest : Rest (length s) d (put d 0 s)
+    put-rest = record {
+      long = length-put d 0 s room;
+      same = ap (λ (k : ℕ). drop k (put d 0 s)) (sym (zero-add (length s))) ∙ after-put d 0 s room ∙ ap (λ (k : ℕ). drop k d) (zero-add (length s));
+    }

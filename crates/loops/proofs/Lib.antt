@@ -5,4 +5,5 @@ pub mod Steps
 pub mod Passed
 pub mod Seek
 pub mod Body
+pub mod Noted
 pub mod Claims

@@ -7,14 +7,14 @@ use lib.ListN.{length}
 use Rattle.ground.specs.Answer.{refused}
 use Rattle.ground.specs.Number.{bits}
 use Rattle.ground.specs.Outcome.{Determined}
-use Rattle.ground.specs.Refusal.{Exact, Silent}
+use Rattle.ground.specs.Refusal.{Exact, ExactCall, Silent}
 use Rattle.psi.specs.Section.{wordAt}
 use Rattle.psi.specs.Refusals.{shared}
 use Rattle.psi.specs.Loop.{filled, unfilled, onto}
 use Rattle.loops.specs.Loop.{Descriptor, descriptorsOf, entriesOf}
 use Rattle.loops.specs.Body.{programOf, streamsOf, pmtOwn, pmtRefusals}
-use Rattle.loops.specs.Walk.{walkOf}
-use Rattle.loops.specs.Promises.{Walks}
+use Rattle.loops.specs.Walk.{walkOf, Overview, unsurveyed, surveyOf}
+use Rattle.loops.specs.Promises.{Walks, Surveys}
 
 -- "Descriptors are tag, length, bytes": a descriptor laid out again as the bytes that it stands for
 abbrev pub laidOut : Descriptor → List ℕ
@@ -34,8 +34,12 @@ bitsBefore lead = bits (wordAt lead 3) 10 2
 pub record Claims : Type 0 where
   -- any two outcomes that the promise of `walk` admits are equal
   pub walks : (s : List ℕ) (number item : ℕ) → Determined (Walks s number item)
+  -- any two outcomes that the promise of `survey` admits are equal
+  pub surveys : (s : List ℕ) → Determined (Surveys s)
   -- a PMT is refused, and by which number, exactly as its table says
   pub walksExact : (s : List ℕ) (number item : ℕ) → Exact (pmtRefusals s) (walkOf s number item)
+  -- the same of the survey, which after a refusal has no place noted
+  pub surveyExact : (s : List ℕ) → ExactCall (pmtRefusals s) (λ (o : Overview). o .answer) unsurveyed (surveyOf s)
   -- a loop without bytes is filled, and has no descriptor
   pub noDescriptors : (at : ℕ) → descriptorsOf at [] ≡ filled
   -- a loop that starts with a descriptor is that descriptor, and then the loop after it

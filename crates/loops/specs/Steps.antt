@@ -9,8 +9,10 @@ use lib.Seq.{slice}
 use Rattle.ground.specs.Answer.{Answer, refused, given}
 use Rattle.ground.specs.Refusal.{judge}
 use Rattle.loops.specs.Loop.{Descriptor, Entry, descriptorsOf, entriesOf}
-use Rattle.loops.specs.Body.{programOf, streamsOf, pmtLoops}
-use Rattle.loops.specs.Walk.{Found, found, foundIn}
+use Rattle.loops.specs.Body.{programOf, streamsOf, pmtLoops, pmtRefusals}
+use Rattle.loops.specs.Walk.{Found, found, foundIn, placed}
+use Rattle.loops.specs.declared.Walked.{Walked}
+use Rattle.loops.specs.declared.Walked.the-variants as walked
 
 -- what was met of the loop asked for: how many descriptors, and the place of the item asked for
 pub record Met : Type 0 where
@@ -25,10 +27,18 @@ met count place = record { count = count; place = place }
 abbrev pub foundAll : ℕ → Met → Found
 foundAll loops m = found (loops - 1) (m .count) (m .place)
 
+-- what a whole walk leaves: what it found, and the places of the entries
+pub record Noted : Type 0 where
+  pub found : Found
+  pub places : List ℕ
+
+abbrev pub noted : Found → List ℕ → Noted
+noted f places = record { found = f; places = places }
+
 -- what the number says that a walker answers: there is at least the program's loop
-abbrev pub toldWalk : ℕ → ℕ → ℕ → Answer Found
-toldWalk zero count place = refused 26
-toldWalk (suc n) count place = given (foundAll (suc n) (met count place))
+abbrev pub toldWalk : ℕ → ℕ → ℕ → List ℕ → Answer Noted
+toldWalk zero count place places = refused 26
+toldWalk (suc n) count place places = given (noted (foundAll (suc n) (met count place)) places)
 
 -- the loop with the number `asked` is asked for, and in it an item: item 0 is the entry, item i + 1 its descriptor i
 module _ (asked item : ℕ) where
@@ -54,22 +64,37 @@ module _ (asked item : ℕ) where
   seek number m (e ∷ es) = seek (number + 1) (seekIn number (begun number (e .at) m) (e .descriptors)) es
 
   -- the walk over the entries from `at` on
-  unfoldable pub walkEntries : List ℕ → ℕ → ℕ → Met → Answer Found
-  walkEntries b at number m =
+  unfoldable pub walkEntries : List ℕ → ℕ → ℕ → Met → List ℕ → Answer Noted
+  walkEntries b at number m places =
       let es = entriesOf at (drop at b) in
-      cond (es .fills) (given (seek number m (es .items))) (refused 26)
+      cond (es .fills) (given (noted (seek number m (es .items)) (placed number places (es .items)))) (refused 26)
 
   -- the walk over the descriptors from `at` to `stop`, and then over the entries from `stop` on
-  unfoldable pub walkDescriptors : List ℕ → ℕ → ℕ → ℕ → Met → Answer Found
-  walkDescriptors b at stop number m =
+  unfoldable pub walkDescriptors : List ℕ → ℕ → ℕ → ℕ → Met → List ℕ → Answer Noted
+  walkDescriptors b at stop number m places =
       let ds = descriptorsOf at (slice at stop b) in
       let es = entriesOf stop (drop stop b) in
-      cond (ds .fills && es .fills) (given (seek (number + 1) (seekIn number m (ds .items)) (es .items))) (refused 26)
+      cond (ds .fills && es .fills)
+      (given (noted (seek (number + 1) (seekIn number m (ds .items)) (es .items)) (placed (number + 1) places (es .items))))
+      (refused 26)
 
   -- what the walk over a section's body meets
   abbrev pub metIn : List ℕ → Found
   metIn s = seek 1 (seekIn 0 (met 0 0) (programOf s .items)) (streamsOf s .items)
 
+  -- what a walk over a section is to leave
+  abbrev pub notedIn : List ℕ → List ℕ → Noted
+  notedIn s places = noted (foundIn s asked item) (placed 1 places (streamsOf s .items))
+
   -- what walking over the body of a section answers, where all before its loops passes
-  abbrev pub bodyWalkedOf : List ℕ → Answer Found
-  bodyWalkedOf s = judge refused (pmtLoops s) (given (foundIn s asked item))
+  abbrev pub bodyWalkedOf : List ℕ → List ℕ → Answer Noted
+  bodyWalkedOf s places = judge refused (pmtLoops s) (given (notedIn s places))
+
+  -- the same of the section, or the first refusal that applies
+  abbrev pub runOf : List ℕ → List ℕ → Answer Noted
+  runOf s places = judge refused (pmtRefusals s) (given (notedIn s places))
+
+-- what the answer of `run` says, with the places that it leaves
+abbrev pub toldRun : Walked → List ℕ → Answer Noted
+toldRun (walked.Whole entries descriptors place) places = given (noted (found entries descriptors place) places)
+toldRun (walked.Refused n) places = refused n

@@ -1,9 +1,10 @@
 // The walk over a PMT's body: descriptors, then entries, each followed by its descriptors, until the bytes are used up exactly.
 // Every parameter and answer of a walker is a single number or address, so that the compiler can make each call a jump, and the stack need not grow with the section.
+use crate::Places;
 use octets::number_of_two;
 ghost use mathlib.Core.Path.{_≡_};
 ghost use mathlib.Core.Bool.{cond};
-ghost use Prim.Native.Nat.{_<_, _≤_};
+ghost use Prim.Native.Nat.{_+_, _*_, _<_, _≤_};
 ghost use lib.ListN.{length};
 ghost use Rattle.loops.specs.Steps.{met, toldWalk, walkDescriptors, walkEntries};
 
@@ -16,6 +17,7 @@ fn noted(asked: bool, new: usize, old: usize) -> usize
 
 // Walks the entries from `at` on, the first of which has the loop `number`, and answers how many loops there are, or 0 for refusal 26.
 // Of the loop `asked` for it notes how many descriptors there are, and the place of an item: item 0 is the entry, item i + 1 its descriptor i.
+// The place of every entry is noted too, under the number of its loop.
 pub(crate) fn entries(
     body: &&[u8],
     at: usize,
@@ -24,10 +26,11 @@ pub(crate) fn entries(
     item: usize,
     count: &mut usize,
     place: &mut usize,
+    places: &mut Places,
 ) -> usize
-    requires { ⌜ (length (now (now body)) ≤ 1024) × (at ≤ length (now (now body))) × (0 < number) × (number ≤ at) × (now count ≤ at) ⌝ }
-    ensures { λ r. ⌜ toldWalk r (now (count .exit)) (now (place .exit))
-        ≡ walkEntries asked item (now (now (body .entry))) at number (met (now (count .entry)) (now (place .entry))) ⌝ }
+    requires { ⌜ (length (now (now body)) ≤ 1020) × (at ≤ length (now (now body))) × (0 < number) × (5 * number + 7 ≤ at) × (now count ≤ at) ⌝ }
+    ensures { λ r. ⌜ toldWalk r (now (count .exit)) (now (place .exit)) (now (places .exit))
+        ≡ walkEntries asked item (now (now (body .entry))) at number (met (now (count .entry)) (now (place .entry))) (now (places .entry)) ⌝ }
 {
     let b = *body;
     let left = b.len() - at;
@@ -46,7 +49,18 @@ pub(crate) fn entries(
         return 0;
     }
     *place = noted((number == asked) & (item == 0), at, *place);
-    descriptors(body, at + 5, at + 5 + n, number, asked, item, count, place)
+    places[number] = at as u16;
+    descriptors(
+        body,
+        at + 5,
+        at + 5 + n,
+        number,
+        asked,
+        item,
+        count,
+        place,
+        places,
+    )
 }
 
 // Walks the descriptors of the loop `number` from `at` to `stop`, and then the entries from `stop` on; `count` descriptors of the loop asked for were met before.
@@ -59,14 +73,15 @@ pub(crate) fn descriptors(
     item: usize,
     count: &mut usize,
     place: &mut usize,
+    places: &mut Places,
 ) -> usize
-    requires { ⌜ (length (now (now body)) ≤ 1024) × (at ≤ stop) × (stop ≤ length (now (now body))) × (number < at) × (now count ≤ at) ⌝ }
-    ensures { λ r. ⌜ toldWalk r (now (count .exit)) (now (place .exit))
-        ≡ walkDescriptors asked item (now (now (body .entry))) at stop number (met (now (count .entry)) (now (place .entry))) ⌝ }
+    requires { ⌜ (length (now (now body)) ≤ 1020) × (at ≤ stop) × (stop ≤ length (now (now body))) × (5 * number + 12 ≤ at) × (now count ≤ at) ⌝ }
+    ensures { λ r. ⌜ toldWalk r (now (count .exit)) (now (place .exit)) (now (places .exit))
+        ≡ walkDescriptors asked item (now (now (body .entry))) at stop number (met (now (count .entry)) (now (place .entry))) (now (places .entry)) ⌝ }
 {
     let left = stop - at;
     if left == 0 {
-        return entries(body, at, number + 1, asked, item, count, place);
+        return entries(body, at, number + 1, asked, item, count, place, places);
     }
     if left < 2 {
         return 0;
@@ -80,5 +95,15 @@ pub(crate) fn descriptors(
     let next = *count + 1;
     *place = noted(is_asked & (item == next), at, *place);
     *count = noted(is_asked, next, *count);
-    descriptors(body, at + 2 + n, stop, number, asked, item, count, place)
+    descriptors(
+        body,
+        at + 2 + n,
+        stop,
+        number,
+        asked,
+        item,
+        count,
+        place,
+        places,
+    )
 }

@@ -2,13 +2,11 @@
 -- Assumes nothing.
 use mathlib.Core.Path.{_≡_, sym, _∙_, ap}
 use mathlib.Core.List.{List, []}
-use Prim.Native.Nat.{ℕ, suc, _+_, _-_, _*_, _/_, _%_, _≤_, _<_}
-use native.Mathlib.Nat.{zero-add}
-use native.Mathlib.Numerals.{add-one}
+use Prim.Native.Nat.{ℕ, _+_, _-_, _*_, _/_, _%_, _≤_, _<_}
 use native.Mathlib.Omega.{arith}
 use lib.ListN.{length, getD, take, set, length-map, List·getD-map}
 use Rattle.ground.specs.Write.{put}
-use Rattle.ground.proofs.Write.{put-turn}
+use Rattle.ground.proofs.Write.{stored}
 use Rattle.psi.specs.Section.{wordOf}
 use Rattle.pat.specs.Answers.{Association}
 use Rattle.pat.specs.Pat.{patOf, associationOf}
@@ -28,14 +26,6 @@ module _ (s : List ℕ) where
   pub pid-of : (i : ℕ) → getD (pidsOf s) i 0 ≡ associationOf (getD (patOf s .items) i []) .pid
   pid-of i = List·getD-map (λ (four : List ℕ). associationOf four .pid) (patOf s .items) i []
 
--- one turn: the next number is stored after those that stand written
-pub stored : (d l : List ℕ) (i n : ℕ) → i < length d → i < length l → n ≡ getD l i 0 → set (put d 0 (take i l)) i n ≡ put d 0 (take (i + 1) l)
-stored d l i n p q e =
-    ap (λ (k : ℕ). set (put d 0 (take i l)) k n) (sym (zero-add i))
-    ∙ ap (λ (k : ℕ). set (put d 0 (take i l)) (0 + i) k) e
-    ∙ put-turn d 0 l i 0 (omega arith) q
-    ∙ ap (λ (k : ℕ). put d 0 (take k l)) (sym (add-one i))
-
 -- ---- the same by places of a section that has room for its header and CRC_32
 module _ (s : List ℕ) (h : 12 ≤ length s) (i : ℕ) (l : i < (length s - 12) / 4) where
   pub program-at : wordOf (getD s (8 + 4 * i) 0) (getD s (8 + 4 * i + 1) 0) ≡ getD (programsOf s) i 0
@@ -49,11 +39,11 @@ module _ (s : List ℕ) (h : 12 ≤ length s) (i : ℕ) (l : i < (length s - 12)
   stored-program d room short =
       let n = programs-length s in
       let m = pat-count s h in
-      stored d (programsOf s) i _ (omega arith) (omega arith) program-at
+      stored d (programsOf s) i _ 0 (omega arith) (omega arith) program-at
 
   pub stored-pid : (d : List ℕ) → 253 ≤ length d → length s ≤ 1024
       → set (put d 0 (take i (pidsOf s))) i (wordOf (getD s (8 + 4 * i + 2) 0) (getD s (8 + 4 * i + 3) 0) % 8192) ≡ put d 0 (take (i + 1) (pidsOf s))
   stored-pid d room short =
       let n = pids-length s in
       let m = pat-count s h in
-      stored d (pidsOf s) i _ (omega arith) (omega arith) pid-at
+      stored d (pidsOf s) i _ 0 (omega arith) (omega arith) pid-at

@@ -2,22 +2,20 @@
 -- Assumes nothing.
 use mathlib.Core.Path.{_≡_, refl, sym, _∙_, ap, ap₂}
 use mathlib.Core.List.{List, []}
-use Prim.Native.Nat.{ℕ, _+_, _≤_, _<_}
-use native.Mathlib.Nat.{zero-add}
+use Prim.Native.Nat.{ℕ, _≤_, _<_}
 use native.Mathlib.Omega.{arith}
 use borrow.Author.Tests.{ltb-false}
-use lib.ListN.{length, getD, drop}
-use Rattle.ground.specs.Answer.{Answer, refused, given}
+use lib.ListN.{length, getD}
+use Rattle.ground.specs.Answer.{refused, given}
 use Rattle.ground.specs.Refusal.{Silent, ExactCall}
-use Rattle.ground.specs.Write.{put}
+use Rattle.ground.specs.Write.{put, Rest}
 use Rattle.ground.proofs.Answer.{given-same}
 use Rattle.ground.proofs.Judged.{passed-over, exact-call}
 use Rattle.ground.proofs.Refusal.{no≤, accepted}
-use Rattle.ground.proofs.Write.{length-put, after-put, getD-inside}
-use Rattle.pat.specs.Answers.{PatHeading, Association}
+use Rattle.ground.proofs.Write.{put-item, put-rest}
+use Rattle.pat.specs.Answers.{PatHeading}
 use Rattle.pat.specs.Pat.{patOf, patRefusals, patHeadingOf, patHeaderOf, associationOf, patMissing, patEntryOf}
 use Rattle.pat.specs.Listed.{programsOf, pidsOf, Listed, unlisted, patListRefusals, patListOf}
-use Rattle.pat.specs.Claims.{Rest}
 use Rattle.pat.proofs.Limits.{pat-limit}
 use Rattle.pat.proofs.Listed.{programs-length, pids-length, program-of, pid-of}
 
@@ -45,17 +43,14 @@ module _ (s programs pids : List ℕ) where
     list-header = rw heading (accepted refused (given (patHeadingOf s)) (patRefusals s) (quiet .1 .1))
 
     -- both lists have room
-    room : (d l : List ℕ) → 253 ≤ length d → length l ≡ length (patOf s .items) → 0 + length l ≤ length d
+    room : (d l : List ℕ) → 253 ≤ length d → length l ≡ length (patOf s .items) → length l ≤ length d
     room d l r m = let k = pat-limit s (quiet .1 .1) in omega arith
 
-    wide : 0 + length (programsOf s) ≤ length programs
+    wide : length (programsOf s) ≤ length programs
     wide = room programs (programsOf s) (ltb-false (length programs) 253 (quiet .0)) (programs-length s)
 
-    wide′ : 0 + length (pidsOf s) ≤ length pids
+    wide′ : length (pidsOf s) ≤ length pids
     wide′ = room pids (pidsOf s) (ltb-false (length pids) 253 (quiet .1 .0)) (pids-length s)
-
-    item : (d l : List ℕ) → 0 + length l ≤ length d → (i : ℕ) → i < length l → getD l i 0 ≡ getD (put d 0 l) i 0
-    item d l r i b = sym (ap (λ (k : ℕ). getD (put d 0 l) k 0) (sym (zero-add i)) ∙ getD-inside d 0 l r i 0 b)
 
     pub list-entry : (i : ℕ) → i < h .entries
         → patEntryOf s i ≡ given (record { programNumber = getD (patListOf s programs pids .programs) i 0; pid = getD (patListOf s programs pids .pids) i 0 })
@@ -67,13 +62,11 @@ module _ (s programs pids : List ℕ) where
         passed-over a (patRefusals s) (patMissing s i) (quiet .1 .1)
         ∙ sym (no≤ _ _ _ _ there refl)
         ∙ ap₂ (λ (x y : ℕ). given (record { programNumber = x; pid = y }))
-        (sym (program-of s i) ∙ item programs (programsOf s) wide i (omega arith) ∙ ap (λ (l : Listed). getD (l .programs) i 0) (sym is))
-        (sym (pid-of s i) ∙ item pids (pidsOf s) wide′ i (omega arith) ∙ ap (λ (l : Listed). getD (l .pids) i 0) (sym is))
+        (sym (program-of s i) ∙ sym (put-item programs (programsOf s) wide i 0 (omega arith)) ∙ ap (λ (l : Listed). getD (l .programs) i 0) (sym is))
+        (sym (pid-of s i) ∙ sym (put-item pids (pidsOf s) wide′ i 0 (omega arith)) ∙ ap (λ (l : Listed). getD (l .pids) i 0) (sym is))
 
-    rest : (d l after : List ℕ) → 0 + length l ≤ length d → length l ≡ length (patOf s .items) → after ≡ put d 0 l → Rest (h .entries) d after
-    rest d l after r m p =
-        let k : h .entries ≡ 0 + length l = count ∙ sym m ∙ sym (zero-add (length l)) in
-        rw (p, k) (record { long = length-put d 0 l r; same = after-put d 0 l r })
+    rest : (d l after : List ℕ) → length l ≤ length d → length l ≡ length (patOf s .items) → after ≡ put d 0 l → Rest (h .entries) d after
+    rest d l after r m p = let k = count ∙ sym m in rw (p, k) (put-rest d l r)
 
     pub list-rest : Rest (h .entries) programs (patListOf s programs pids .programs) × Rest (h .entries) pids (patListOf s programs pids .pids)
     list-rest = (

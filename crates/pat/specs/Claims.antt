@@ -2,21 +2,17 @@
 use mathlib.Core.Path.{_≡_}
 use mathlib.Core.List.{List}
 use Prim.Native.Nat.{ℕ, _≤_, _<_}
-use lib.ListN.{length, getD, drop}
+use lib.ListN.{getD}
 use Rattle.ground.specs.Answer.{given}
 use Rattle.ground.specs.Outcome.{Determined}
 use Rattle.ground.specs.Refusal.{Exact, ExactCall}
+use Rattle.ground.specs.Write.{Rest}
 use Rattle.psi.specs.Section.{before}
 use Rattle.psi.specs.Loop.{joined}
 use Rattle.pat.specs.Answers.{PatHeading}
 use Rattle.pat.specs.Pat.{patOf, patRefusals, patHeaderOf, patEntryRefusals, patEntryOf}
 use Rattle.pat.specs.Listed.{Listed, unlisted, patListRefusals, patListOf}
 use Rattle.pat.specs.Promises.{ReadsPatHeader, ReadsPatEntry, ListsPatEntries}
-
--- A list has its length, and from a place on what stood there, as it was lent
-pub record Rest (from : ℕ) (lent after : List ℕ) : Type 0 where
-  pub long : length after ≡ length lent
-  pub same : drop from after ≡ drop from lent
 
 pub record Claims : Type 0 where
   -- any two outcomes that the promise of `pat_header` admits are equal

@@ -1,28 +1,28 @@
 -- What a whole walk of a PMT section says of each public call's answer: what it found is what they give.
 -- Assumes nothing.
-use mathlib.Core.Path.{_≡_, refl, sym, _∙_, ap, ap₂}
+use mathlib.Core.Path.{_≡_, refl, sym, _∙_, ap}
 use mathlib.Core.List.{List}
 use Prim.Native.Nat.{ℕ, _+_, _%_, _≤_, _<_}
-use native.Mathlib.Nat.{add-zero, div-one}
+use native.Mathlib.Nat.{div-one}
 use native.Mathlib.Numerals.{add-one}
 use native.Mathlib.Omega.{arith}
-use lib.Dec.{lit<}
-use lib.ListN.{length, getD, drop, length-map}
-use lib.Seq.{getD-take, getD-drop}
+use lib.ListN.{length, getD, length-map}
 use Rattle.ground.specs.Answer.{refused, given}
 use Rattle.ground.specs.Refusal.{judge, Silent}
 use Rattle.ground.proofs.Judged.{given-by, is-refused, passed-over, stays-refused}
 use Rattle.ground.proofs.Refusal.{yes≤, no≤, accepted}
-use Rattle.psi.specs.Section.{byteAt, wordOf, wordAt}
+use Rattle.psi.specs.Section.{wordAt}
 use Rattle.loops.specs.Loop.{Descriptor, Entry}
 use Rattle.loops.specs.Body.{streamsOf, pmtRefusals, entryAt, loopsOf, loopAt, descriptorAt}
 use Rattle.loops.specs.Walk.{Found, found, foundIn, walkOf}
 use Rattle.loops.proofs.Passed.{PmtPassed, pmt-passed}
 use Rattle.loops.proofs.Seek.{loop-of}
 use Rattle.pmt.specs.Pmt.{pmtHeadingOf, pmtHeaderOf, streamOf, pmtMissing, pmtEntryOf, descriptorPlace, descriptorMissing, descriptorIn}
-use Rattle.pmt.specs.Steps.{pmtHeadingAt, streamAt, descriptorPlaceAt}
-use Rattle.pmt.proofs.Placed.{descriptor-stands, entry-stands}
-use Rattle.pmt.proofs.Placement.{Stands, EntryStands}
+use Rattle.pmt.specs.Listed.{pmtListingOf}
+use Rattle.pmt.specs.Steps.{pmtHeadingAt, pmtListingAt, streamAt, descriptorPlaceAt}
+use Rattle.pmt.proofs.Placed as placed
+use Rattle.pmt.proofs.Placed.{descriptor-stands, type-there, pid-there}
+use Rattle.pmt.proofs.Placement.{Stands}
 
 -- ---- a walk that was not refused: the section passes, and what was found is what is to be found
 module _ (s : List ℕ) (number item : ℕ) (f : Found) (e : walkOf s number item ≡ given f) where
@@ -54,6 +54,13 @@ header s f e =
     let pid = ap (λ (w : ℕ). w % 8192) (div-one (wordAt s 8)) in
     accepted refused (given (pmtHeadingOf s)) (pmtRefusals s) (silent s 0 0 f e) ∙ cc
 
+-- the same with all entries read
+pub listing : (s : List ℕ) (n : ℕ) → n ≡ length (streamsOf s .items) → pmtListingAt s n ≡ pmtListingOf s
+listing s n e =
+    let pid = ap (λ (w : ℕ). w % 8192) (div-one (wordAt s 8)) in
+    let size = ap (λ (w : ℕ). w % 4096) (div-one (wordAt s 10)) in
+    cc
+
 -- ---- an entry
 module _ (s : List ℕ) (i : ℕ) (f : Found) (e : walkOf s (i + 1) 0 ≡ given f) where
   abbrev own : Entry
@@ -76,21 +83,18 @@ module _ (s : List ℕ) (i : ℕ) (f : Found) (e : walkOf s (i + 1) 0 ≡ given 
     listed : i < length (streamsOf s .items)
     listed = rw entry-found at h
 
-    own-stands : EntryStands s own
-    own-stands = entry-stands s (good s (i + 1) 0 f e) i listed
+    place : f .place ≡ own .at
+    place = ap (λ (x : Found). x .place) entry-found
 
     pub entry-inside : f .place + 5 ≤ length s
-    entry-inside = rw entry-found (own-stands .inside)
-
-    lead : (j : ℕ) → j < 5 → getD (own .lead) j 0 ≡ getD s (own .at + j) 0
-    lead j l = ap (λ (x : List ℕ). getD x j 0) (own-stands .lead) ∙ getD-take 5 (drop (own .at) s) j 0 l ∙ getD-drop (own .at) s j 0
+    entry-inside = placed.entry-inside s (good s (i + 1) 0 f e) i listed (f .place) place
 
     pub entry-there : pmtEntryOf s i ≡ given (streamAt s (f .place) (f .descriptors))
     entry-there =
+        let p = good s (i + 1) 0 f e in
         let descriptors = ap (λ (x : Found). x .descriptors) entry-found in
-        let place = ap (λ (x : Found). x .place) entry-found in
-        let kind : byteAt (own .lead) 0 ≡ getD s (own .at) 0 = lead 0 (lit< tt) ∙ ap (λ (x : ℕ). getD s x 0) (add-zero (own .at)) in
-        let pid = ap (λ (w : ℕ). w % 8192) (div-one (wordAt (own .lead) 1) ∙ ap₂ wordOf (lead 1 (lit< tt)) (lead 2 (lit< tt))) in
+        let kind = type-there s p i listed (f .place) place in
+        let pid = pid-there s p i listed (f .place) place in
         entry-on ∙ sym (no≤ _ _ _ _ listed cc)
 
 -- ---- a descriptor

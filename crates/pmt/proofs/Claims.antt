@@ -1,19 +1,22 @@
 -- Nothing of an answer is left untold, and the tables are exact as every table is; the rest is cited.
 -- Assumes nothing.
-use mathlib.Core.Path.{_≡_, refl}
+use mathlib.Core.Path.{_≡_, refl, ap}
 use mathlib.Core.List.{List}
 use Prim.Native.Nat.{ℕ, _+_, _≤_}
 use native.Mathlib.Omega.{arith}
 use Rattle.ground.specs.Answer.{Answer, refused, given}
 use Rattle.ground.proofs.Judged.{exact, given-by}
 use Rattle.ground.proofs.Outcome.{determined, determined-told}
-use Rattle.pmt.specs.Answers.{PmtHeading, ElementaryStream, DescriptorPlace, toldPmtHeader, toldPmtEntry, toldPmtDescriptor}
+use Rattle.pmt.specs.Answers.{PmtHeading, PmtListing, ElementaryStream, DescriptorPlace, toldPmtHeader, toldPmtListed, toldPmtEntry, toldPmtDescriptor}
 use Rattle.psi.proofs.Claims.{madeHead}
 use Rattle.loops.specs.Body.{pmtRefusals}
 use Rattle.pmt.specs.Pmt
+use Rattle.pmt.specs.Listed.{Lists, Listed, listed, pmtListOf}
 use Rattle.pmt.specs.Claims.{Claims}
 use Rattle.pmt.specs.declared.PmtHeader.{PmtHeader}
 use Rattle.pmt.specs.declared.PmtHeader.the-variants as pmt-header
+use Rattle.pmt.specs.declared.PmtListed.{PmtListed}
+use Rattle.pmt.specs.declared.PmtListed.the-variants as pmt-listed
 use Rattle.pmt.specs.declared.PmtEntry.{PmtEntry}
 use Rattle.pmt.specs.declared.PmtEntry.the-variants as pmt-entry
 use Rattle.pmt.specs.declared.PmtDescriptor.{PmtDescriptor}
@@ -21,7 +24,8 @@ use Rattle.pmt.specs.declared.PmtDescriptor.the-variants as pmt-descript
 use Rattle.loops.proofs.Passed.{PmtPassed, pmt-passed}
 use Rattle.pmt.proofs.Limits.{pmt-limit, pmt-bytes}
 use Rattle.pmt.proofs.Placed.{part-inside, part-bytes}
-use Rattle.pmt.proofs.Next.{next-follows, next-ends, next-overruns}
+use Rattle.pmt.proofs.Whole.{list-exact, list-header, list-entry, list-program, list-loop, list-rest}
+use Rattle.pmt.proofs.Next.{next-inside, next-follows, next-ends, next-overruns}
 
 -- ---- the answer that says what was told, and that it is the answer
 abbrev madePmtHeader : Answer PmtHeading → PmtHeader
@@ -47,6 +51,23 @@ madePmtDescriptor (refused n) = pmt-descriptor.Refused n
 backPmtDescriptor : (r : PmtDescriptor) → madePmtDescriptor (toldPmtDescriptor r) ≡ r
 backPmtDescriptor (pmt-descriptor.Descriptor p) = refl
 backPmtDescriptor (pmt-descriptor.Refused n) = refl
+
+abbrev madePmtListed : Answer PmtListing → PmtListed
+madePmtListed (given h) = pmt-listed.Listed (madeHead (h .heading)) (record { 0 = h .pcrPid }) (h .start) (h .size) (h .entries)
+madePmtListed (refused n) = pmt-listed.Refused n
+
+backPmtListed : (r : PmtListed) → madePmtListed (toldPmtListed r) ≡ r
+backPmtListed (pmt-listed.Listed head pcr start size entries) = refl
+backPmtListed (pmt-listed.Refused n) = refl
+
+abbrev toldListed : PmtListed × Lists → Listed
+toldListed o = listed (o .0) (o .1)
+
+abbrev madeListed : Listed → PmtListed × Lists
+madeListed x = (madePmtListed (x .answer), x .lists)
+
+backListed : (o : PmtListed × Lists) → madeListed (toldListed o) ≡ o
+backListed o = ap (λ (r : PmtListed). (r, o .1)) (backPmtListed (o .0))
 
 -- ---- a PMT whose header is given
 module _ (s : List ℕ) (h : PmtHeading) (e : Pmt.pmtHeaderOf s ≡ given h) where
@@ -78,7 +99,15 @@ claims =
       partBytes = part-bytes;
       nextDescriptor = λ bytes at. determined-told toldPmtDescriptor madePmtDescriptor backPmtDescriptor (Pmt.nextOf bytes at);
       nextExact = λ bytes at. exact (Pmt.nextRefusals bytes at) _;
+      nextInside = next-inside;
       nextFollows = next-follows;
       nextEnds = next-ends;
       nextOverruns = next-overruns;
+      pmtList = λ s l. determined-told toldListed madeListed backListed (pmtListOf s l);
+      pmtListExact = list-exact;
+      pmtListHeader = list-header;
+      pmtListEntry = list-entry;
+      pmtListProgram = list-program;
+      pmtListLoop = list-loop;
+      pmtListRest = list-rest;
     }

@@ -1,14 +1,17 @@
--- A worked example, by computation: a PMT of two streams, one with two descriptors, and these walked by their places.
+-- A worked example, by computation: a PMT of two streams, one with two descriptors, read one by one and at once, and these walked by their places.
 -- Assumes nothing.
 use mathlib.Core.Path.{_≡_, refl}
 use mathlib.Core.Bool.{true}
 use mathlib.Core.List.{List, [], _∷_}
 use Prim.Native.Nat.{ℕ}
+use lib.ListN.{take, replicate}
 use Rattle.ground.specs.Answer.{refused, given}
+use Rattle.ground.specs.Write.{put}
 use Rattle.crc.specs.Figure.{tick, decoder, right}
 use Rattle.loops.specs.Loop.{descriptorsOf, entriesOf}
 use Rattle.loops.specs.Body.{programOf, streamsOf}
 use Rattle.pmt.specs.Pmt.{pmtHeaderOf, pmtEntryOf, descriptorIn, nextOf}
+use Rattle.pmt.specs.Listed.{lists, Listed, unlisted, pmtListOf}
 
 -- program 1: the clock is on PID 0x0101, with a descriptor; video on 0x0101, and audio on 0x0102 with two descriptors
 abbrev pub pmt : List ℕ
@@ -35,6 +38,38 @@ pmt-audio-descriptor = refl
 pub pmt-none : descriptorIn pmt 1 0 ≡ refused 27
 unfolding tick decoder right programOf streamsOf descriptorsOf entriesOf
 pmt-none = refl
+
+-- ---- all its entries in one reading, to lists of 201 places
+abbrev places : List ℕ
+places = replicate 201 7
+
+abbrev whole : Listed
+whole = pmtListOf pmt (lists places places places places)
+
+pub pmt-listed : whole .answer ≡ given (record { heading = record { id = 1; version = 2; current = true; sectionNumber = 0; lastNumber = 0 }; pcrPid = 0x0101; start = 12; size = 6; entries = 2 })
+unfolding tick decoder right programOf streamsOf descriptorsOf entriesOf
+pmt-listed = refl
+
+pub pmt-types : take 3 (whole .lists .types) ≡ 0x1B ∷ 0x0F ∷ 7 ∷ []
+unfolding tick decoder right programOf streamsOf descriptorsOf entriesOf put
+pmt-types = refl
+
+pub pmt-pids : take 3 (whole .lists .pids) ≡ 0x0101 ∷ 0x0102 ∷ 7 ∷ []
+unfolding tick decoder right programOf streamsOf descriptorsOf entriesOf put
+pmt-pids = refl
+
+-- the video stream's loop is empty and ends where the audio stream's entry begins
+pub pmt-starts : take 3 (whole .lists .starts) ≡ 23 ∷ 28 ∷ 7 ∷ []
+unfolding tick decoder right programOf streamsOf descriptorsOf entriesOf put
+pmt-starts = refl
+
+pub pmt-sizes : take 3 (whole .lists .sizes) ≡ 0 ∷ 9 ∷ 7 ∷ []
+unfolding tick decoder right programOf streamsOf descriptorsOf entriesOf put
+pmt-sizes = refl
+
+-- A list that is one place short is refused before the section, which is no PMT here
+pub pmt-short : pmtListOf [] (lists places places places (replicate 200 7)) ≡ unlisted (lists places places places (replicate 200 7)) 3
+pmt-short = refl
 
 -- ---- the audio stream's loop as a part of its own, from place to place
 abbrev loop : List ℕ

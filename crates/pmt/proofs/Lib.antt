@@ -3,5 +3,7 @@ pub mod Placement
 pub mod Placed
 pub mod Answers
 pub mod Limits
+pub mod Listed
 pub mod Next
+pub mod Whole
 pub mod Claims

@@ -56,6 +56,11 @@ module _ (bytes : List ℕ) (at : ℕ) where
   loop-at : descriptorsOf at (drop at bytes) ≡ descriptorsOf at (slice at size bytes)
   loop-at = ap (descriptorsOf at) (sym (to-end at))
 
+  pub next-inside : (p : DescriptorPlace) → nextOf bytes at ≡ given p → (p .start ≡ at + 2) × (p .start + p .size ≤ length bytes)
+  next-inside p e =
+      let g = given-by (nextRefusals bytes at) place p e in
+      (ap (λ (x : DescriptorPlace). x .start) (g .1), rw (g .1) (ltb-false size (at + 2 + own) (g .0 .1 .1 .0)))
+
   pub next-follows : (p : DescriptorPlace) → nextOf bytes at ≡ given p
       → descriptorsOf at (drop at bytes)
       ≡ onto (record { at = at; tag = p .tag; bytes = take (p .size) (drop (p .start) bytes) }) (descriptorsOf (p .start + p .size) (drop (p .start + p .size) bytes))

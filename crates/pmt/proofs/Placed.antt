@@ -1,14 +1,15 @@
 -- In a PMT section that passes, every entry and descriptor stands in the section where it says it does, and so does the part that an answer names.
 -- Assumes nothing.
-use mathlib.Core.Path.{_≡_, sym, _∙_, ap}
-use mathlib.Core.Bool.{true, false}
+use mathlib.Core.Path.{_≡_, sym, _∙_, ap, ap₂}
+use mathlib.Core.Bool.{Bool, true, false}
 use mathlib.Core.List.{List, [], _∷_, _++_, append-assoc, map}
-use Prim.Native.Nat.{ℕ, zero, suc, _+_, _-_, _≤_, _<_}
-use native.Mathlib.Nat.{add-zero, le-of-eq}
+use Prim.Native.Nat.{ℕ, zero, suc, _+_, _-_, _/_, _%_, _≤_, _<_}
+use native.Mathlib.Nat.{add-zero, div-one, le-of-eq}
 use native.Mathlib.Omega.{arith}
 use borrow.Author.Tests.{leb-false}
-use lib.ListN.{length, getD, take, drop, take-append-drop}
-use lib.Seq.{slice, length-take-le, drop-append-le}
+use lib.Dec.{lit<}
+use lib.ListN.{length, getD, take, drop, length-drop, take-append-drop}
+use lib.Seq.{slice, length-take-le, getD-take, getD-drop, take-append-le, drop-append-le}
 use Rattle.ground.specs.Answer.{Answer, refused, given}
 use Rattle.ground.specs.Refusal.{Row, Silent, _when_}
 use Rattle.ground.specs.Walk.{Every}
@@ -16,10 +17,13 @@ use Rattle.ground.proofs.Judged.{given-by, judge-ind}
 use Rattle.ground.proofs.Walk.{every-at, every-of}
 use Rattle.ground.proofs.Refusal.{silent-both}
 use Rattle.ground.proofs.Part.{slice-take}
+use Rattle.ground.proofs.Test.{both-true}
+use Rattle.psi.specs.Section.{wordOf, wordAt}
 use Rattle.pmt.specs.Answers.{DescriptorPlace}
-use Rattle.loops.specs.Loop.{Entry}
+use Rattle.loops.specs.Loop.{Entry, descriptorsOf}
 use Rattle.loops.specs.Body.{bodyOf, infoLength, programOf, streamsOf, noEntry, entryAt, pmtRefusals, loopAt, noDescriptor, descriptorAt}
-use Rattle.pmt.specs.Pmt.{descriptorPlace, descriptorMissing, descriptorRefusals, descriptorIn, descriptorStart, descriptorSize}
+use Rattle.pmt.specs.Listed.{sizeOf}
+use Rattle.pmt.specs.Pmt.{streamOf, descriptorPlace, descriptorMissing, descriptorRefusals, descriptorIn, descriptorStart, descriptorSize}
 use Rattle.loops.proofs.Passed.{PmtPassed, pmt-passed}
 use Rattle.pmt.proofs.Placement.{Stands, EntryStands, descriptors-stand, entries-stand}
 
@@ -68,6 +72,42 @@ module _ (s : List ℕ) (p : PmtPassed s) where
 
   pub entry-stands : (i : ℕ) → i < length (streamsOf s .items) → EntryStands s (entryAt s i)
   entry-stands i h = every-at (EntryStands s) (streamsOf s .items) noEntry streams-stand i h
+
+  -- the program's descriptors fill the part that program_info_length says
+  pub program-loop : descriptorsOf 12 (take (infoLength s) (drop 12 s)) ≡ record { fills = true; items = programOf s .items }
+  unfolding programOf
+  program-loop =
+      let b = bodyOf s in
+      let k = infoLength s in
+      let there : k ≤ length (drop 12 b) = rw length-drop (omega (arith, room)) in
+      ap (λ (r : List ℕ). descriptorsOf 12 (take k r)) (goes-on 12 (omega (arith, room)))
+      ∙ ap (descriptorsOf 12) (take-append-le k (drop 12 b) (drop (length s - 4) s) there ∙ sym (slice-take 12 k b))
+      ∙ ap (λ (t : Bool). record { fills = t; items = programOf s .items }) (both-true (programOf s .fills) (streamsOf s .fills) (p .filled) .0)
+
+  -- the fields of an entry, by places of the section
+  module _ (i : ℕ) (h : i < length (streamsOf s .items)) (place : ℕ) (there : place ≡ entryAt s i .at) where
+    abbrev own : Entry
+    own = entryAt s i
+
+    pub entry-inside : place + 5 ≤ length s
+    entry-inside = let r = entry-stands i h .inside in omega arith
+
+    lead : (j : ℕ) → j < 5 → getD s (place + j) 0 ≡ getD (own .lead) j 0
+    lead j l =
+        ap (λ (k : ℕ). getD s (k + j) 0) there
+        ∙ sym (ap (λ (x : List ℕ). getD x j 0) (entry-stands i h .lead) ∙ getD-take 5 (drop (own .at) s) j 0 l ∙ getD-drop (own .at) s j 0)
+
+    word : (j : ℕ) → j + 1 < 5 → wordOf (getD s (place + j) 0) (getD s (place + (j + 1)) 0) ≡ wordAt (own .lead) j / 1
+    word j l = ap₂ wordOf (lead j (omega arith)) (lead (j + 1) l) ∙ sym (div-one (wordAt (own .lead) j))
+
+    pub type-there : getD s place 0 ≡ streamOf own .streamType
+    type-there = ap (λ (k : ℕ). getD s k 0) (sym (add-zero place)) ∙ lead 0 (lit< tt)
+
+    pub pid-there : wordOf (getD s (place + 1) 0) (getD s (place + 2) 0) % 8192 ≡ streamOf own .pid
+    pid-there = ap (λ (w : ℕ). w % 8192) (word 1 (lit< tt))
+
+    pub size-there : wordOf (getD s (place + 3) 0) (getD s (place + 4) 0) % 4096 ≡ sizeOf own
+    size-there = ap (λ (w : ℕ). w % 4096) (word 3 (lit< tt))
 
 -- ---- the part that the answer for a descriptor names
 module _ (s : List ℕ) (number i : ℕ) where

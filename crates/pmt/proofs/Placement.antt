@@ -7,19 +7,19 @@ use Prim.Native.Nat.{ℕ, _+_, _≤_, _<_}
 use native.Mathlib.Nat.{add-zero}
 use native.Mathlib.Omega.{arith}
 use borrow.Author.Tests.{leb-true}
-use lib.Dec.{leb, eqb}
+use lib.Dec.{leb, eqb, lit<}
 use lib.ListN.{length, getD, take, drop, length-append, length-drop, take-append-drop}
-use lib.Seq.{length-take-le, drop-drop, getD-drop, take-append-le, drop-append-le}
+use lib.Seq.{length-take-le, drop-drop, getD-take, getD-drop, take-append-le, drop-append-le}
 use Rattle.ground.specs.Items.{takes, ends, onward}
 use Rattle.ground.specs.Number.{bits}
 use Rattle.ground.specs.Walk.{Every}
 use Rattle.ground.proofs.Items.{items-ind}
 use Rattle.ground.proofs.Test.{both-true}
-use Rattle.psi.specs.Section.{wordAt}
+use Rattle.psi.specs.Section.{wordOf, wordAt}
 use Rattle.psi.specs.Loop.{Loop, filled, unfilled, onto}
 use Rattle.loops.specs.Loop.{Descriptor, Entry, fits, firstDescriptor, firstEntry, descriptorsOf, entriesOf}
 use Rattle.psi.specs.Loop.{joined}
-use Rattle.loops.specs.Claims.{laidOut}
+use Rattle.loops.specs.Claims.{laidOut, lengthIn}
 use Rattle.pmt.specs.Claims.{entryLaidOut}
 
 -- ---- from descriptor to descriptor
@@ -103,8 +103,9 @@ pub record Stands (b : List ℕ) (d : Descriptor) : Type 0 where
 
 pub record EntryStands (b : List ℕ) (e : Entry) : Type 0 where
   pub lead : e .lead ≡ take 5 (drop (e .at) b)
-  pub inside : e .at + 5 ≤ length b
+  pub inside : e .at + 5 + lengthIn (e .lead) ≤ length b
   pub descriptors : Every (Stands b) (e .descriptors)
+  pub loop : descriptorsOf (e .at + 5) (take (lengthIn (e .lead)) (drop (e .at + 5) b)) ≡ record { fills = true; items = e .descriptors }
 
 -- bytes s stand at a place of b, and `after` is what follows them there
 module _ (b : List ℕ) where
@@ -140,17 +141,22 @@ module _ (b : List ℕ) where
       (λ at s l h own stand after e.
       let n = ownSize s in
       let five : 5 ≤ length s = omega arith in
-      let within = size-at at s after e (omega arith) in (
+      let within = size-at at s after e (omega arith) in
+      let says : lengthIn (take 5 s) ≡ n = ap₂ (λ (x y : ℕ). bits (wordOf x y) 0 12) (getD-take 5 s 3 0 (lit< tt)) (getD-take 5 s 4 0 (lit< tt)) in
+      let behind : drop (at + 5) b ≡ drop 5 s ++ after = sym (drop-drop 5 at b) ∙ ap (drop 5) e ∙ drop-append-le 5 s after five in
+      let room : n ≤ length (drop 5 s) = rw length-drop (omega arith) in (
         record {
           lead = sym (ap (take 5) e ∙ take-append-le 5 s after five);
-          inside = omega arith;
+          inside = rw says (omega arith);
           descriptors =
               descriptors-stand (at + 5) (take n (drop 5 s)) (drop n (drop 5 s) ++ after)
-              (sym (drop-drop 5 at b)
-              ∙ ap (drop 5) e
-              ∙ drop-append-le 5 s after five
+              (behind
               ∙ ap (λ (r : List ℕ). r ++ after) (sym (take-append-drop n (drop 5 s)))
               ∙ append-assoc (take n (drop 5 s)) (drop n (drop 5 s)) after);
+          loop =
+              ap₂ (λ (k : ℕ) (r : List ℕ). descriptorsOf (at + 5) (take k r)) says behind
+              ∙ ap (descriptorsOf (at + 5)) (take-append-le n (drop 5 s) after room)
+              ∙ ap (λ (t : Bool). record { fills = t; items = ownOf at s .items }) own;
         },
         stand after (sym (drop-drop (5 + n) at b) ∙ ap (drop (5 + n)) e ∙ drop-append-le (5 + n) s after h),
       ))

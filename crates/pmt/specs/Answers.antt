@@ -4,6 +4,8 @@ use Rattle.ground.specs.Answer.{Answer, refused, given}
 use Rattle.psi.specs.Answers.{Heading, toldHead}
 use Rattle.pmt.specs.declared.PmtHeader.{PmtHeader}
 use Rattle.pmt.specs.declared.PmtHeader.the-variants as pmt-header
+use Rattle.pmt.specs.declared.PmtListed.{PmtListed}
+use Rattle.pmt.specs.declared.PmtListed.the-variants as pmt-listed
 use Rattle.pmt.specs.declared.PmtEntry.{PmtEntry}
 use Rattle.pmt.specs.declared.PmtEntry.the-variants as pmt-entry
 use Rattle.pmt.specs.declared.PmtDescriptor.{PmtDescriptor}
@@ -21,6 +23,20 @@ abbrev pub toldPmtHeader : PmtHeader → Answer PmtHeading
 toldPmtHeader (pmt-header.Header head pcr descriptors entries) =
     given (record { heading = toldHead head; pcrPid = pcr .0; descriptors = descriptors; entries = entries })
 toldPmtHeader (pmt-header.Refused n) = refused n
+
+-- the header and PCR_PID, where in the section the program's own descriptors start and how many bytes they have, and how many entries follow
+pub record PmtListing : Type 0 where
+  pub heading : Heading
+  pub pcrPid : ℕ
+  pub start : ℕ
+  pub size : ℕ
+  pub entries : ℕ
+
+-- what `pmt_entries` answers: head, pcr_pid, start, size, entries
+abbrev pub toldPmtListed : PmtListed → Answer PmtListing
+toldPmtListed (pmt-listed.Listed head pcr start size entries) =
+    given (record { heading = toldHead head; pcrPid = pcr .0; start = start; size = size; entries = entries })
+toldPmtListed (pmt-listed.Refused n) = refused n
 
 -- "entries of stream_type, PID, ES_info_length", and how many descriptors that length holds
 pub record ElementaryStream : Type 0 where

@@ -5,7 +5,9 @@ use Prim.Native.Nat.{ℕ, _+_}
 use Rattle.ground.specs.Lent.{Lent}
 use Rattle.pmt.specs.Answers.{toldPmtHeader, toldPmtEntry, toldPmtDescriptor}
 use Rattle.pmt.specs.Pmt.{pmtHeaderOf, pmtEntryOf, descriptorIn, partOf, nextOf}
+use Rattle.pmt.specs.Listed.{Lists, listed, pmtListOf}
 use Rattle.pmt.specs.declared.PmtHeader.{PmtHeader}
+use Rattle.pmt.specs.declared.PmtListed.{PmtListed}
 use Rattle.pmt.specs.declared.PmtEntry.{PmtEntry}
 use Rattle.pmt.specs.declared.PmtDescriptor.{PmtDescriptor}
 
@@ -36,3 +38,7 @@ GivesEntryDescriptorBytes l e i r = r ≡ partOf l (descriptorIn (l .bytes) (e +
 -- `next_descriptor`, of lent bytes and a place in them
 abbrev pub FindsNextDescriptor : List ℕ → ℕ → PmtDescriptor → Type 0
 FindsNextDescriptor bytes at r = toldPmtDescriptor r ≡ nextOf bytes at
+
+-- `pmt_entries`: its outcome is the answer, with the four lent lists after it
+abbrev pub ListsPmtEntries : List ℕ → Lists → PmtListed × Lists → Type 0
+ListsPmtEntries s l o = listed (o .0) (o .1) ≡ pmtListOf s l

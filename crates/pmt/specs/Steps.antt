@@ -3,13 +3,24 @@
 use mathlib.Core.List.{List}
 use Prim.Native.Nat.{ℕ, _+_, _%_}
 use lib.ListN.{getD}
-use Rattle.pmt.specs.Answers.{PmtHeading, ElementaryStream, DescriptorPlace}
+use Rattle.pmt.specs.Answers.{PmtHeading, PmtListing, ElementaryStream, DescriptorPlace}
 use Rattle.psi.specs.Section.{wordOf, headingOf}
 
 -- the header of a PMT with these counts
 abbrev pub pmtHeadingAt : List ℕ → ℕ → ℕ → PmtHeading
 pmtHeadingAt s descriptors entries =
     record { heading = headingOf s; pcrPid = wordOf (getD s 8 0) (getD s 9 0) % 8192; descriptors = descriptors; entries = entries }
+
+-- what reading a whole PMT with so many entries answers
+abbrev pub pmtListingAt : List ℕ → ℕ → PmtListing
+pmtListingAt s entries =
+    record {
+      heading = headingOf s;
+      pcrPid = wordOf (getD s 8 0) (getD s 9 0) % 8192;
+      start = 12;
+      size = wordOf (getD s 10 0) (getD s 11 0) % 4096;
+      entries = entries;
+    }
 
 -- the entry of a PMT that stands at a place
 abbrev pub streamAt : List ℕ → ℕ → ℕ → ElementaryStream

@@ -1,4 +1,5 @@
 // The program map table: the header, the entries and the descriptors of a lent section, or the refusal's number.
+use loops::Places;
 use loops::Walked;
 use octets::number_of_two;
 use pid::Pid;
@@ -9,8 +10,13 @@ ghost use Prim.Native.Nat.{_+_, _≤_};
 ghost use lib.ListN.{length};
 ghost use Rattle.ground.specs.Answer.{given};
 ghost use Rattle.ground.specs.Lent.{lent, part};
-ghost use Rattle.loops.specs.Walk.{found, walkOf};
-ghost use Rattle.pmt.specs.Answers.{toldPmtHeader, toldPmtEntry, toldPmtDescriptor};
+ghost use Rattle.ground.specs.Refusal.{Silent};
+ghost use Rattle.loops.specs.Body.{streamsOf, pmtRefusals};
+ghost use Rattle.loops.specs.Walk.{found, walkOf, placed, unnoted};
+ghost use Rattle.psi.specs.Answers.{toldHead};
+ghost use Rattle.psi.specs.Section.{headingOf};
+ghost use Rattle.pmt.specs.Answers.{toldPmtHeader, toldPmtListed, toldPmtEntry, toldPmtDescriptor};
+ghost use Rattle.pmt.specs.Listed.{lists, writtenTo};
 ghost use Rattle.pmt.specs.Pmt.{pmtEntryOf, descriptorIn, descriptorStart, descriptorSize, partOf};
 ghost use Rattle.pmt.specs.Promises.{
   ReadsPmtHeader,
@@ -20,8 +26,12 @@ ghost use Rattle.pmt.specs.Promises.{
   GivesProgramDescriptorBytes,
   GivesEntryDescriptorBytes,
   FindsNextDescriptor,
+  ListsPmtEntries,
 };
-ghost use Rattle.pmt.specs.Steps.{pmtHeadingAt, streamAt, descriptorPlaceAt};
+ghost use Rattle.pmt.specs.Steps.{pmtHeadingAt, pmtListingAt, streamAt, descriptorPlaceAt};
+
+// A PMT has no more entries.
+pub const MOST_STREAMS: usize = 201;
 
 // An entry: an elementary stream's type, its PID and how many descriptors it has.
 pub struct Stream {
@@ -47,6 +57,18 @@ pub enum PmtHeader {
     Refused(u8),
 }
 
+// All of a PMT but its lists: the program's own descriptors are the `size` bytes from the place `start` on.
+pub enum PmtListed {
+    Listed {
+        head: Head,
+        pcr_pid: Pid,
+        start: usize,
+        size: usize,
+        entries: usize,
+    },
+    Refused(u8),
+}
+
 pub enum PmtEntry {
     Entry(Stream),
     Refused(u8),
@@ -57,6 +79,14 @@ pub enum PmtDescriptor {
     Refused(u8),
 }
 
+// The head of a section that has it.
+fn head_in(section: &[u8]) -> Head
+    requires { ⌜ 8 ≤ length (now section) ⌝ }
+    ensures { λ r. ⌜ toldHead r ≡ headingOf (now (section .entry)) ⌝ }
+{
+    head_of(section[3], section[4], section[5], section[6], section[7])
+}
+
 // The header of a PMT that is not refused and has so many descriptors of its own and so many entries.
 fn header_of(section: &[u8], descriptors: usize, entries: usize) -> PmtHeader
     requires { ⌜ 10 ≤ length (now section) ⌝ }
@@ -64,7 +94,7 @@ fn header_of(section: &[u8], descriptors: usize, entries: usize) -> PmtHeader
 {
     let pcr_pid = Pid(number_of_two(section[8], section[9]) % 8192);
     PmtHeader::Header {
-        head: head_of(section[3], section[4], section[5], section[6], section[7]),
+        head: head_in(section),
         pcr_pid,
         descriptors,
         entries,
@@ -247,4 +277,92 @@ pub fn next_descriptor(part: &[u8], at: usize) -> PmtDescriptor
         return PmtDescriptor::Refused(26);
     }
     descriptor_at(part, at)
+}
+
+// Writes the entries of a PMT that is not refused, which stand at these places, to the start of the lists.
+fn list_streams(
+    section: &[u8],
+    places: Places,
+    n: usize,
+    types: &mut [u8],
+    pids: &mut [u16],
+    starts: &mut [u16],
+    sizes: &mut [u16],
+)
+    requires { ⌜ Silent (pmtRefusals (now section))
+        × (n ≡ length (streamsOf (now section) .items))
+        × (places ≡ placed 1 unnoted (streamsOf (now section) .items))
+        × (201 ≤ length (now types))
+        × (201 ≤ length (now pids))
+        × (201 ≤ length (now starts))
+        × (201 ≤ length (now sizes)) ⌝ }
+    ensures { λ r. ⌜ lists (now (types .exit)) (now (pids .exit)) (now (starts .exit)) (now (sizes .exit))
+        ≡ writtenTo (lists (now (types .entry)) (now (pids .entry)) (now (starts .entry)) (now (sizes .entry))) (now (section .entry)) ⌝ }
+{
+    let mut i: usize = 0;
+    while i < n {
+        let place = places[i + 1] as usize;
+        types[i] = section[place];
+        pids[i] = number_of_two(section[place + 1], section[place + 2]) % 8192;
+        starts[i] = (place + 5) as u16;
+        sizes[i] = number_of_two(section[place + 3], section[place + 4]) % 4096;
+        i += 1;
+    }
+}
+
+// The answer of a whole PMT that is not refused and has so many entries.
+fn listing_of(section: &[u8], entries: usize) -> PmtListed
+    requires { ⌜ 12 ≤ length (now section) ⌝ }
+    ensures { λ r. ⌜ toldPmtListed r ≡ given (pmtListingAt (now (section .entry)) entries) ⌝ }
+{
+    let pcr_pid = Pid(number_of_two(section[8], section[9]) % 8192);
+    let size = (number_of_two(section[10], section[11]) % 4096) as usize;
+    PmtListed::Listed {
+        head: head_in(section),
+        pcr_pid,
+        start: 12,
+        size,
+        entries,
+    }
+}
+
+// The header of a section asked for as a PMT, and all its entries, written to the start of four lists of at least 201 places.
+// Of entry i there are its stream_type, its PID, and where in the section its descriptors start and how many bytes they have.
+pub fn pmt_entries(
+    section: &[u8],
+    types: &mut [u8],
+    pids: &mut [u16],
+    starts: &mut [u16],
+    sizes: &mut [u16],
+) -> PmtListed
+    ensures { λ r. ⌜ ListsPmtEntries (now (section .entry))
+        (lists (now (types .entry)) (now (pids .entry)) (now (starts .entry)) (now (sizes .entry)))
+        (r, lists (now (types .exit)) (now (pids .exit)) (now (starts .exit)) (now (sizes .exit))) ⌝ }
+{
+    if types.len() < MOST_STREAMS {
+        return PmtListed::Refused(3);
+    }
+    if pids.len() < MOST_STREAMS {
+        return PmtListed::Refused(3);
+    }
+    if starts.len() < MOST_STREAMS {
+        return PmtListed::Refused(3);
+    }
+    if sizes.len() < MOST_STREAMS {
+        return PmtListed::Refused(3);
+    }
+    let survey = loops::survey(section);
+    let walked = survey.walked;
+    match walked {
+        Walked::Refused(n) => PmtListed::Refused(n),
+        Walked::Whole {
+            entries,
+            descriptors: _,
+            place: _,
+        } => {
+            let places = survey.places;
+            list_streams(section, places, entries, types, pids, starts, sizes);
+            listing_of(section, entries)
+        }
+    }
 }

@@ -10,7 +10,7 @@ pub struct Call {
 }
 
 /// Each word with the highest value of each number, and whether bytes come last.
-pub const LINES: [(&str, &[u64], bool); 28] = [
+pub const LINES: [(&str, &[u64], bool); 29] = [
     ("fresh", &[], false),
     ("area", &[7, 65_535, 255, 65_535, 255, 255], false),
     ("place", &[31, 65_535, 255], false),
@@ -28,6 +28,7 @@ pub const LINES: [(&str, &[u64], bool); 28] = [
     ("programs", &[256, 256], true),
     ("pmt", &[], true),
     ("pmtitem", &[65_535], true),
+    ("streams", &[256, 256, 256, 256], true),
     ("outer", &[65_535], true),
     ("inner", &[65_535, 65_535], true),
     ("loop", &[ANY], true),

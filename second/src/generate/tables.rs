@@ -16,13 +16,16 @@ pub fn generate(random: &mut Random, script: &mut Script) {
     let index = some_index(random, table.entries.len());
     script.call_with(&format!("patitem {}", index), &table.bytes);
     let table = some_program_table(random);
-    let lists = format!("{} {}", some_list(random), some_list(random));
-    script.call_with(&format!("programs {}", lists), &table.bytes);
+    let lists = some_lists(random, 2, 253);
+    script.call_with(&format!("programs{}", lists), &table.bytes);
     let table = some_stream_table(random);
     script.call_with("pmt", &table.bytes);
     let table = some_stream_table(random);
     let index = some_index(random, table.entries.len());
     script.call_with(&format!("pmtitem {}", index), &table.bytes);
+    let table = some_stream_table(random);
+    let lists = some_lists(random, 4, 201);
+    script.call_with(&format!("streams{}", lists), &table.bytes);
     let table = some_stream_table(random);
     let index = some_index(random, table.outer);
     script.call_with(&format!("outer {}", index), &table.bytes);
@@ -39,14 +42,19 @@ pub fn generate(random: &mut Random, script: &mut Script) {
     script.call_with("crc", &bytes);
 }
 
-/// How many places of a list are lent: mostly enough, with the bound and the one below it among them.
-fn some_list(random: &mut Random) -> usize {
-    match random.below(16) {
-        0 => 252,
-        1 => random.below(253),
-        2 | 3 => 256,
-        _ => 253,
+/// How many places of each list are lent, where so many serve: mostly enough, with the bound and the one below it among them.
+fn some_lists(random: &mut Random, count: usize, enough: usize) -> String {
+    let mut lists = String::new();
+    for _ in 0..count {
+        let lent = match random.below(16) {
+            0 => enough - 1,
+            1 => random.below(enough),
+            2 | 3 => 256,
+            _ => enough,
+        };
+        lists.push_str(&format!(" {}", lent));
     }
+    lists
 }
 
 /// Where a part of the section starts, and a place in it: mostly a descriptor's, the end and places past it among them.

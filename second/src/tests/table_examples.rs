@@ -3,7 +3,7 @@
 use super::outcome;
 use crate::refusal_numbers::Refusal;
 use crate::tables::{
-    cyclic_register, cyclic_right, descriptor_at, inner_descriptor, list_programs,
+    cyclic_register, cyclic_right, descriptor_at, inner_descriptor, list_programs, list_streams,
     outer_descriptor, program_entry, read_program_table, read_stream_table, stream_entry,
     Descriptor,
 };
@@ -53,6 +53,17 @@ fn lists_are_judged_before_the_section() {
     assert_eq!(list_programs(&PAT, 252, 253), Err(Refusal(3)));
     assert_eq!(list_programs(&[], 253, 252), Err(Refusal(3)));
     assert_eq!(list_programs(&[], 253, 253), Err(Refusal(20)));
+    let section = stream_section();
+    assert_eq!(
+        list_streams(&section, [201; 4]),
+        read_stream_table(&section)
+    );
+    assert_eq!(
+        list_streams(&section, [201, 201, 201, 200]),
+        Err(Refusal(3))
+    );
+    assert_eq!(list_streams(&[], [200, 201, 201, 201]), Err(Refusal(3)));
+    assert_eq!(list_streams(&[], [201; 4]), Err(Refusal(20)));
 }
 
 #[test]
@@ -76,9 +87,11 @@ fn a_stream_table() {
     let table = read_stream_table(&section).unwrap();
     assert_eq!((table.common.id, table.common.version), (0x1234, 1));
     assert_eq!(table.clock_pid, 0x100);
-    assert_eq!((table.descriptors.len(), table.streams.len()), (1, 2));
+    assert_eq!((table.outer.descriptors.len(), table.streams.len()), (1, 2));
+    assert_eq!((table.outer.start, table.outer.size), (12, 4));
     let second = stream_entry(&section, 1).unwrap();
     assert_eq!((second.kind, second.pid), (0x0F, 0x102));
+    assert_eq!((second.inner.start, second.inner.size), (26, 7));
     let descriptor = |tag, start, size| Ok(Descriptor { tag, start, size });
     assert_eq!(outer_descriptor(&section, 0), descriptor(5, 14, 2));
     assert_eq!(outer_descriptor(&section, 1), Err(Refusal(27)));

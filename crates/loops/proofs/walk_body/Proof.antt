@@ -45,17 +45,17 @@ add-descriptors : tie.Need-add-descriptors
 add-descriptors c = search needs
 
 descriptors-requires : tie.Need-descriptors-requires
-descriptors-requires c κs = omega (arith, body (c .before .before .before .before), info (c .before .before .before .before))
+descriptors-requires c κs = omega (arith, body (c .before .before .before .before .before), info (c .before .before .before .before .before))
 
 returns : tie.Need-returns
 returns c =
-    let start = c .before .before .before .before .before .before .before .before .before in
+    let start = c .before .before .before .before .before .before .before .before .before .before in
     let a = start .args in
     let s = a .s .now in
     c .descriptors .ensures
-    ∙ ap (λ (k : ℕ). walkDescriptors (a .asked) (a .item) (bodyOf s) 12 (12 + k) 0 (met (now (a .count)) (now (a .place)))) (info (c .before .before .before .before .before))
-    ∙ ap₂ (λ (x y : ℕ). walkDescriptors (a .asked) (a .item) (bodyOf s) 12 (12 + infoLength s) 0 (met x y)) (start .pre .3) (start .pre .4)
-    ∙ body-walk (a .asked) (a .item) s
+    ∙ ap (λ (k : ℕ). walkDescriptors (a .asked) (a .item) (bodyOf s) 12 (12 + k) 0 (met (now (a .count)) (now (a .place))) (now (a .places))) (info (c .before .before .before .before .before .before))
+    ∙ ap₂ (λ (x y : ℕ). walkDescriptors (a .asked) (a .item) (bodyOf s) 12 (12 + infoLength s) 0 (met x y) (now (a .places))) (start .pre .3) (start .pre .4)
+    ∙ body-walk (a .asked) (a .item) s (now (a .places))
 
 pub walk-body-spec : {M : Type 1} → statement M
 walk-body-spec =

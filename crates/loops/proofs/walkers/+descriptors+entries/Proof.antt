@@ -6,7 +6,7 @@ use Prim.Native.Nat.{ℕ, _≤_, _<_, _+_, _-_, _*_, _/_, _%_}
 use native.Mathlib.Omega.{arith}
 use borrow.Author.Needs.{needs}
 use lib.Dec.{eqb}
-use lib.ListN.{length, getD}
+use lib.ListN.{length, getD, set}
 use Rattle.loops.specs.Steps.{met, walkDescriptors}
 use Rattle.loops.proofs.Steps.{told-whole, entries-end, entries-short, entries-bits, entries-over, entries-on, descriptors-end, descriptors-one, descriptors-over, descriptors-on}
 use borrow.Fn.Kinds.{In}
@@ -27,25 +27,25 @@ at-most-one-more : (t : Bool) (n : ℕ) {m : ℕ} → m ≡ cond t (n + 1) n →
 at-most-one-more true n e = omega arith
 at-most-one-more false n e = omega arith
 
-abbrev μ-descriptors : Measures 4 descriptors-kinds.ps ℕ
+abbrev μ-descriptors : Measures 5 descriptors-kinds.ps ℕ
 μ-descriptors κs a = 2 * (length (a .0 .now .now) - a .1 .0) + 1
 
-abbrev μ-entries : Measures 4 entries-kinds.ps ℕ
+abbrev μ-entries : Measures 5 entries-kinds.ps ℕ
 μ-entries κs a = 2 * (length (a .0 .now .now) - a .1 .0)
 
 -- what holds at a call whose measure is t, and of the calls below it
 module _ (t : ℕ) where
-  abbrev descriptors-at : In 4 descriptors-kinds.ps
-  descriptors-at = and 4 descriptors-kinds.ps (is 4 descriptors-kinds.ps μ-descriptors t) descriptors.Pre
+  abbrev descriptors-at : In 5 descriptors-kinds.ps
+  descriptors-at = and 5 descriptors-kinds.ps (is 5 descriptors-kinds.ps μ-descriptors t) descriptors.Pre
 
-  abbrev descriptors-below : In 4 descriptors-kinds.ps
-  descriptors-below = and 4 descriptors-kinds.ps (falls 4 descriptors-kinds.ps _<_ μ-descriptors t) descriptors.Pre
+  abbrev descriptors-below : In 5 descriptors-kinds.ps
+  descriptors-below = and 5 descriptors-kinds.ps (falls 5 descriptors-kinds.ps _<_ μ-descriptors t) descriptors.Pre
 
-  abbrev entries-at : In 4 entries-kinds.ps
-  entries-at = and 4 entries-kinds.ps (is 4 entries-kinds.ps μ-entries t) entries.Pre
+  abbrev entries-at : In 5 entries-kinds.ps
+  entries-at = and 5 entries-kinds.ps (is 5 entries-kinds.ps μ-entries t) entries.Pre
 
-  abbrev entries-below : In 4 entries-kinds.ps
-  entries-below = and 4 entries-kinds.ps (falls 4 entries-kinds.ps _<_ μ-entries t) entries.Pre
+  abbrev entries-below : In 5 entries-kinds.ps
+  entries-below = and 5 entries-kinds.ps (falls 5 entries-kinds.ps _<_ μ-entries t) entries.Pre
 
   abbrev by-descriptors : descriptors-lts.Claims
   by-descriptors = (entries-below, entries.Post, noted-reads.Asked, noted-reads.Learnt, descriptors-below, descriptors.Post)
@@ -64,13 +64,13 @@ module _ (t : ℕ) where
 
   descriptors-returns : descriptors-lts.Need-returns by-descriptors descriptors-at descriptors.Post
   descriptors-returns c =
-      let a = c .before .before .before .before .args in
-      c .entries .ensures ∙ sym (descriptors-end (a .asked) (a .item) (a .body .now .now) (a .at) (a .stop) (a .number) (met (a .count .now) (a .place .now)) (omega arith) (omega arith))
+      let a = c .before .before .before .before .before .args in
+      c .entries .ensures ∙ sym (descriptors-end (a .asked) (a .item) (a .body .now .now) (a .at) (a .stop) (a .number) (met (a .count .now) (a .place .now)) (a .places .now) (omega arith) (omega arith))
 
   descriptors-returns-2 : descriptors-lts.Need-returns-2 by-descriptors descriptors-at descriptors.Post
   descriptors-returns-2 c =
       let a = c .before .before .args in
-      sym (descriptors-one (a .asked) (a .item) (a .body .now .now) (a .at) (a .stop) (a .number) (met (a .count .now) (a .place .now)) (omega arith) (omega arith))
+      sym (descriptors-one (a .asked) (a .item) (a .body .now .now) (a .at) (a .stop) (a .number) (met (a .count .now) (a .place .now)) (a .places .now) (omega arith) (omega arith))
 
   descriptors-add-n : descriptors-lts.Need-add-n by-descriptors descriptors-at descriptors.Post
   descriptors-add-n c = omega arith
@@ -86,7 +86,7 @@ module _ (t : ℕ) where
   descriptors-returns-3 : descriptors-lts.Need-returns-3 by-descriptors descriptors-at descriptors.Post
   descriptors-returns-3 c =
       let a = c .before .before .before .before .before .args in
-      sym (descriptors-over (a .asked) (a .item) (a .body .now .now) (a .at) (a .stop) (a .number) (met (a .count .now) (a .place .now)) (omega arith) (omega arith) (omega arith))
+      sym (descriptors-over (a .asked) (a .item) (a .body .now .now) (a .at) (a .stop) (a .number) (met (a .count .now) (a .place .now)) (a .places .now) (omega arith) (omega arith) (omega arith))
 
   descriptors-add-next : descriptors-lts.Need-add-next by-descriptors descriptors-at descriptors.Post
   descriptors-add-next c = omega arith
@@ -105,17 +105,17 @@ module _ (t : ℕ) where
 
   descriptors-descriptors-requires : descriptors-lts.Need-descriptors-requires by-descriptors descriptors-at descriptors.Post
   descriptors-descriptors-requires c κs =
-      let a = c .before .before .before .before .before .before .before .before .before .before .before .args in
-      let few = at-most-one-more (eqb (a .number) (a .asked)) (a .count .now) (c .before .before .noted2 .ensures) in
+      let a = c .before .before .before .before .before .before .before .before .before .before .before .before .args in
+      let few = at-most-one-more (eqb (a .number) (a .asked)) (a .count .now) (c .before .before .before .noted2 .ensures) in
       omega arith
 
   descriptors-returns-4 : descriptors-lts.Need-returns-4 by-descriptors descriptors-at descriptors.Post
   descriptors-returns-4 c =
-      let a = c .before .before .before .before .before .before .before .before .before .before .before .before .args in
+      let a = c .before .before .before .before .before .before .before .before .before .before .before .before .before .args in
       c .descriptors .ensures
-      ∙ ap₂ (λ (m n : ℕ). walkDescriptors (a .asked) (a .item) (a .body .now .now) (a .at + 2 + getD (a .body .now .now) (a .at + 1) 0) (a .stop) (a .number) (met m n))
-      (c .before .before .before .noted2 .ensures) (c .before .before .before .before .noted .ensures)
-      ∙ sym (descriptors-on (a .asked) (a .item) (a .body .now .now) (a .at) (a .stop) (a .number) (met (a .count .now) (a .place .now)) (omega arith) (omega arith) (omega arith))
+      ∙ ap₂ (λ (m n : ℕ). walkDescriptors (a .asked) (a .item) (a .body .now .now) (a .at + 2 + getD (a .body .now .now) (a .at + 1) 0) (a .stop) (a .number) (met m n) (a .places .now))
+      (c .before .before .before .before .noted2 .ensures) (c .before .before .before .before .before .noted .ensures)
+      ∙ sym (descriptors-on (a .asked) (a .item) (a .body .now .now) (a .at) (a .stop) (a .number) (met (a .count .now) (a .place .now)) (a .places .now) (omega arith) (omega arith) (omega arith))
 
   entries-sub-left : entries-lts.Need-sub-left by-entries entries-at entries.Post
   entries-sub-left c = omega arith
@@ -123,12 +123,12 @@ module _ (t : ℕ) where
   entries-returns : entries-lts.Need-returns by-entries entries-at entries.Post
   entries-returns c =
       let a = c .before .before .args in
-      told-whole (a .number) (a .count .now) (a .place .now) (omega arith) ∙ sym (entries-end (a .asked) (a .item) (a .body .now .now) (a .at) (a .number) (met (a .count .now) (a .place .now)) (omega arith))
+      told-whole (a .number) (a .count .now) (a .place .now) (a .places .now) (omega arith) ∙ sym (entries-end (a .asked) (a .item) (a .body .now .now) (a .at) (a .number) (met (a .count .now) (a .place .now)) (a .places .now) (omega arith))
 
   entries-returns-2 : entries-lts.Need-returns-2 by-entries entries-at entries.Post
   entries-returns-2 c =
       let a = c .before .before .before .args in
-      sym (entries-short (a .asked) (a .item) (a .body .now .now) (a .at) (a .number) (met (a .count .now) (a .place .now)) (omega arith) (omega arith))
+      sym (entries-short (a .asked) (a .item) (a .body .now .now) (a .at) (a .number) (met (a .count .now) (a .place .now)) (a .places .now) (omega arith) (omega arith))
 
   entries-add-number-of-two : entries-lts.Need-add-number-of-two by-entries entries-at entries.Post
   entries-add-number-of-two c = omega arith
@@ -149,7 +149,7 @@ module _ (t : ℕ) where
   entries-returns-3 c =
       let a = c .before .before .before .before .before .before .before .args in
       let e = c .before .number-of-two .ensures in
-      sym (entries-bits (a .asked) (a .item) (a .body .now .now) (a .at) (a .number) (met (a .count .now) (a .place .now)) (omega arith) (λ z. c .if3 .taken (ap (λ (w : ℕ). w / 1024 % 4) e ∙ z)))
+      sym (entries-bits (a .asked) (a .item) (a .body .now .now) (a .at) (a .number) (met (a .count .now) (a .place .now)) (a .places .now) (omega arith) (λ z. c .if3 .taken (ap (λ (w : ℕ). w / 1024 % 4) e ∙ z)))
 
   entries-cast-n : entries-lts.Need-cast-n by-entries entries-at entries.Post
   entries-cast-n c = omega arith
@@ -158,10 +158,19 @@ module _ (t : ℕ) where
   entries-returns-4 c =
       let a = c .before .before .before .before .before .before .before .before .args in
       let e = c .before .before .number-of-two .ensures in
-      sym (entries-over (a .asked) (a .item) (a .body .now .now) (a .at) (a .number) (met (a .count .now) (a .place .now)) (omega arith) (rw e at (c .if4 .taken)))
+      sym (entries-over (a .asked) (a .item) (a .body .now .now) (a .at) (a .number) (met (a .count .now) (a .place .now)) (a .places .now) (omega arith) (rw e at (c .if4 .taken)))
 
   entries-noted-requires : entries-lts.Need-noted-requires by-entries entries-at entries.Post
   entries-noted-requires c κs = search needs
+
+  entries-cast-places : entries-lts.Need-cast-places by-entries entries-at entries.Post
+  entries-cast-places c = omega arith
+
+  entries-mul-places : entries-lts.Need-mul-places by-entries entries-at entries.Post
+  entries-mul-places c = omega arith
+
+  entries-element-write-places : entries-lts.Need-element-write-places by-entries entries-at entries.Post
+  entries-element-write-places c = omega arith
 
   entries-add-descriptors : entries-lts.Need-add-descriptors by-entries entries-at entries.Post
   entries-add-descriptors c = omega arith
@@ -177,14 +186,14 @@ module _ (t : ℕ) where
 
   entries-returns-5 : entries-lts.Need-returns-5 by-entries entries-at entries.Post
   entries-returns-5 c =
-      let a = c .before .before .before .before .before .before .before .before .before .before .before .before .before .args in
-      let e = c .before .before .before .before .before .before .before .number-of-two .ensures in
+      let a = c .before .before .before .before .before .before .before .before .before .before .before .before .before .before .args in
+      let e = c .before .before .before .before .before .before .before .before .number-of-two .ensures in
       c .descriptors .ensures
-      ∙ ap₂ (λ (w n : ℕ). walkDescriptors (a .asked) (a .item) (a .body .now .now) (a .at + 5) (a .at + 5 + w % 4096) (a .number) (met (a .count .now) n))
-      e (c .before .before .before .noted .ensures)
-      ∙ sym (entries-on (a .asked) (a .item) (a .body .now .now) (a .at) (a .number) (met (a .count .now) (a .place .now)) (omega arith)
-      (ap (λ (w : ℕ). w / 1024 % 4) (sym e) ∙ c .before .before .before .before .before .before .if3 .left)
-      (rw e at (c .before .before .before .before .before .if4 .left)))
+      ∙ ap₂ (λ (w n : ℕ). walkDescriptors (a .asked) (a .item) (a .body .now .now) (a .at + 5) (a .at + 5 + w % 4096) (a .number) (met (a .count .now) n) (set (a .places .now) (a .number) (a .at)))
+      e (c .before .before .before .before .noted .ensures)
+      ∙ sym (entries-on (a .asked) (a .item) (a .body .now .now) (a .at) (a .number) (met (a .count .now) (a .place .now)) (a .places .now) (omega arith)
+      (ap (λ (w : ℕ). w / 1024 % 4) (sym e) ∙ c .before .before .before .before .before .before .before .if3 .left)
+      (rw e at (c .before .before .before .before .before .before .if4 .left)))
 
   descriptors-met : {M : Type 1} → descriptors-lts.Closed by-descriptors descriptors-at descriptors.Post M
   descriptors-met =
@@ -221,6 +230,9 @@ module _ (t : ℕ) where
       entries-cast-n
       entries-returns-4
       entries-noted-requires
+      entries-cast-places
+      entries-mul-places
+      entries-element-write-places
       entries-add-descriptors
       entries-add-descriptors-2
       entries-add-descriptors-3
