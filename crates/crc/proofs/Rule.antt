@@ -14,7 +14,7 @@ use lib.Pow.{pow-mono}
 use lib.Bits.{bitXor, xor-comm, xor-zero-r}
 use Rattle.crc.specs.Figure.{msbFirst, residueOf}
 use Rattle.crc_table.specs.Table.{shiftOf, shifts}
-use Rattle.crc.specs.Steps.{enterBits, enterBytes, Enters, placed}
+use Rattle.crc.specs.Steps.{enterBits, enterBytes, Enters, inPlace}
 use Rattle.ground.specs.Number.{Bytes}
 use Rattle.ground.proofs.Entries.{everyEntry, entry-at}
 use Rattle.ground.proofs.Xor.{xor-assoc}
@@ -65,7 +65,7 @@ byte-later j v b hj h =
 
 -- up to four bytes go in: they are added at their places, and the register is shifted eight times for each
 pub bytes-later : (bs : List ℕ) (j v : ℕ) → Bytes bs → j + length bs ≤ 4
-    → enterBytes (shifts (8 * j) v) bs ≡ shifts (8 * (j + length bs)) (bitXor v (placed j bs))
+    → enterBytes (shifts (8 * j) v) bs ≡ shifts (8 * (j + length bs)) (bitXor v (inPlace j bs))
 bytes-later [] j v own h =
     ap₂ (λ (x y : ℕ). shifts (8 * x) y) (sym (add-zero j)) (sym (xor-zero-r v))
 bytes-later (b ∷ bs) j v own h =
@@ -73,7 +73,7 @@ bytes-later (b ∷ bs) j v own h =
     let n : suc j + length bs ≡ j + suc (length bs) = omega arith in
     ap (λ (x : ℕ). enterBytes x bs) (byte-later j v b (omega arith) (own .0))
     ∙ bytes-later bs (suc j) here (own .1) (omega arith)
-    ∙ ap₂ (λ (x y : ℕ). shifts (8 * x) y) n (xor-assoc v (b * 2 ^ (24 - 8 * j)) (placed (suc j) bs))
+    ∙ ap₂ (λ (x y : ℕ). shifts (8 * x) y) n (xor-assoc v (b * 2 ^ (24 - 8 * j)) (inPlace (suc j) bs))
 
 -- the byte at i, and the rest
 drop-next : (bytes : List ℕ) (i k : ℕ) → suc i ≡ k → i < length bytes → drop i bytes ≡ getD bytes i 0 ∷ drop k bytes
@@ -110,7 +110,7 @@ four-drop bytes i h =
 
 -- one turn over the others: the register has gone through, and the four bytes from i on are added to it
 pub loop-turn : (bytes : List ℕ) (i v r w : ℕ) → i + 4 ≤ length bytes → Bytes (fourAt bytes i)
-    → r ≡ shifts 32 v → w ≡ placed 0 (fourAt bytes i) → Enters bytes i v → Enters bytes (i + 4) (bitXor r w)
+    → r ≡ shifts 32 v → w ≡ inPlace 0 (fourAt bytes i) → Enters bytes i v → Enters bytes (i + 4) (bitXor r w)
 loop-turn bytes i v r w h own through added e =
     e
     ∙ ap (enterBytes (shifts 32 v)) (four-drop bytes i h)

@@ -27,6 +27,6 @@ abbrev pub Enters : List ℕ → ℕ → ℕ → Type 0
 Enters bytes n r = residueOf bytes ≡ enterBytes (shifts 32 r) (drop n bytes)
 
 -- bytes at their places in the register, from the top, after j others
-abbrev pub placed : ℕ → List ℕ → ℕ
-placed j [] = 0
-placed j (b ∷ bs) = bitXor (b * 2 ^ (24 - 8 * j)) (placed (suc j) bs)
+abbrev pub inPlace : ℕ → List ℕ → ℕ
+inPlace j [] = 0
+inPlace j (b ∷ bs) = bitXor (b * 2 ^ (24 - 8 * j)) (inPlace (suc j) bs)

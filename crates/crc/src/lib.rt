@@ -4,7 +4,7 @@ ghost use mathlib.Core.List.{[], _∷_};
 ghost use Prim.Native.Nat.{_<_, _≤_};
 ghost use lib.ListN.{length};
 ghost use Rattle.crc.specs.Promises.{GivesResidue};
-ghost use Rattle.crc.specs.Steps.{Starts, Enters, placed};
+ghost use Rattle.crc.specs.Steps.{Starts, Enters, inPlace};
 
 // The register that holds all ones when as many zero bytes have gone in as n lacks of four.
 fn start(n: usize) -> u32
@@ -35,7 +35,7 @@ fn first(bytes: &[u8], n: usize) -> u32
 
 // Four bytes at their places in the register.
 fn word(a: u8, b: u8, c: u8, d: u8) -> u32
-    ensures { λ r. ⌜ r ≡ placed 0 (a ∷ b ∷ c ∷ d ∷ []) ⌝ }
+    ensures { λ r. ⌜ r ≡ inPlace 0 (a ∷ b ∷ c ∷ d ∷ []) ⌝ }
 {
     (a as u32) << 24 ^ ((b as u32) << 16 ^ ((c as u32) << 8 ^ d as u32))
 }

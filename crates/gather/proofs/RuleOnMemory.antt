@@ -16,7 +16,7 @@ use Rattle.gather.specs.declared.Marks.{Marks}
 use Rattle.ground.specs.Answer.{given}
 use Rattle.gather.specs.declared.measure.Sizes.{Sizes}
 use Rattle.gather.specs.Kind.{classify}
-use Rattle.gather.specs.Rule.{Last, unseen, seen, Yield, State, Packet, started, yield, front, back, changed, unchanged, kept, lost, repeats, jumps, rule}
+use Rattle.gather.specs.Rule.{unseen, seen, Yield, State, Packet, started, yield, front, back, changed, unchanged, kept, lost, repeats, jumps, rule}
 use Rattle.gather.specs.Memory.{soundMarks, lastOf, seenOf, counterOf, marksOf, stateOf, stretch, toldGathered, leaves, onMemory, contradictsOf}
 use Rattle.gather.specs.Steps.{isPart, Carried, carried, carriedAs, unchangedOf, changedOf, unfinishedOf, Room}
 use Rattle.gather.proofs.Classes.{contradicting-kind}

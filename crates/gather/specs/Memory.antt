@@ -1,5 +1,5 @@
 -- Document 01, "From payload to sections": the rule on memory, the held bytes in an area of the store, the finished sections joined at the start of the output.
-use mathlib.Core.Bool.{Bool, true, false, cond, not, _&&_}
+use mathlib.Core.Bool.{Bool, cond, not, _&&_}
 use mathlib.Core.List.{List, [], _∷_}
 use Prim.Native.Nat.{ℕ, _-_}
 use lib.Dec.{ltb, leb, eqb}

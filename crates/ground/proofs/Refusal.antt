@@ -95,10 +95,6 @@ module _ {ℓ} {A : Type ℓ} (refuse : ℕ → A) (answer : A) where
       (λ f. absurd (apart (f .0) (e ∙ refused refuse answer (f .0) rows (f .1))))
       (verdict rows)
 
-  -- the same where what was given is the answer itself
-  pub none-applies : (rows : List Row) → ((n : ℕ) → refuse n ≡ answer → ⊥) → judge refuse rows answer ≡ answer → Silent rows
-  none-applies rows apart e = none rows answer (λ n q. apart n (sym q)) (sym e) .0
-
   -- where n was given, n is the first that applies; refusals differ from each other and from the answer
   pub only : (rows : List Row) (n : ℕ) → ((m : ℕ) → refuse m ≡ answer → ⊥) → ((m : ℕ) → refuse m ≡ refuse n → m ≡ n)
       → judge refuse rows answer ≡ refuse n → First n rows

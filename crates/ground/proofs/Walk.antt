@@ -226,23 +226,6 @@ module _ {ℓ} {A : Type ℓ} (clash : A → A → Bool) where
       go j k h b (no m) (no n) =
           ap₂ clash (getD-set-other l i j x d m) (getD-set-other l i k x d n) ∙ apart-at l d e j k h b
 
-  -- a loop that tests every element against the later ones
-  module _ (l : List A) (i : ℕ) (r : Bool) (left : r ≡ apart clash (drop i l)) where
-    pub apart-stops : (d : A) → i < length l → all (λ y. not (clash (getD l i d) y)) (drop (i + 1) l) ≡ false → r ≡ false
-    apart-stops d h e =
-        left ∙ ap (apart clash) (drop-cons l i d h)
-        ∙ ap (λ (n : ℕ). all (λ y. not (clash (getD l i d) y)) (drop n l) && apart clash (drop (suc i) l)) (sym (add-one i))
-        ∙ ap (λ (b : Bool). b && apart clash (drop (suc i) l)) e
-
-    pub apart-goes : (d : A) → i < length l → all (λ y. not (clash (getD l i d) y)) (drop (i + 1) l) ≡ true → r ≡ apart clash (drop (i + 1) l)
-    apart-goes d h e =
-        left ∙ ap (apart clash) (drop-cons l i d h)
-        ∙ ap (λ (n : ℕ). all (λ y. not (clash (getD l i d) y)) (drop n l) && apart clash (drop n l)) (sym (add-one i))
-        ∙ ap (λ (b : Bool). b && apart clash (drop (i + 1) l)) e
-
-    pub apart-ends : length l ≤ i → r ≡ true
-    apart-ends h = left ∙ ap (apart clash) (drop-of-length-le l h)
-
 -- ---- an array that is a struct's field: its length is told of the list with a function mapped over it
 pub mapped-length {ℓ ℓ′} : {A : Type ℓ} {B : Type ℓ′} (f : A → B) (l : List A) (n : ℕ) → length (map f l) ≡ n → length l ≡ n
 mapped-length f l n e = sym (length-map l f) ∙ e

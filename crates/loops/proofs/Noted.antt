@@ -16,30 +16,30 @@ use Rattle.ground.proofs.Refusal.{accepted}
 use Rattle.loops.specs.Loop.{Entry}
 use Rattle.loops.specs.Body.{streamsOf, pmtRefusals, noEntry}
 use Rattle.loops.specs.Walk.{Found, toldWalked, foundIn, walkOf, placed, unnoted, Overview, unsurveyed, surveyOf}
-use Rattle.loops.specs.Steps.{Noted, noted, notedIn, runOf, toldRun}
+use Rattle.loops.specs.Steps.{Leaves, leaves, leavesIn, runOf, toldRun}
 use Rattle.loops.specs.declared.Walked.{Walked}
 use Rattle.loops.specs.declared.Walked.the-variants as walked
 
 -- the answer alone
-told-found : (r : Walked) (places : List ℕ) → toldWalked r ≡ mapped (λ (n : Noted). n .found) (toldRun r places)
+told-found : (r : Walked) (places : List ℕ) → toldWalked r ≡ mapped (λ (n : Leaves). n .found) (toldRun r places)
 told-found (walked.Whole entries descriptors place) places = refl
 told-found (walked.Refused n) places = refl
 
 pub run-walks : (r : Walked) (asked item : ℕ) (s places after : List ℕ) → toldRun r after ≡ runOf asked item s places → toldWalked r ≡ walkOf s asked item
 run-walks r asked item s places after e =
     told-found r after
-    ∙ ap (mapped (λ (n : Noted). n .found)) e
-    ∙ sym (judge-mapped (λ (n : Noted). n .found) (pmtRefusals s) (notedIn asked item s places))
+    ∙ ap (mapped (λ (n : Leaves). n .found)) e
+    ∙ sym (judge-mapped (λ (n : Leaves). n .found) (pmtRefusals s) (leavesIn asked item s places))
 
 -- the answer with the places
 module _ (s : List ℕ) where
-  pub surveyed : (f : Found) (places : List ℕ) → runOf 0 0 s unnoted ≡ given (noted f places) → surveyOf s ≡ record { answer = given f; places = places }
+  pub surveyed : (f : Found) (places : List ℕ) → runOf 0 0 s unnoted ≡ given (leaves f places) → surveyOf s ≡ record { answer = given f; places = places }
   surveyed f places e =
-      let g = given-by (pmtRefusals s) (notedIn 0 0 s unnoted) (noted f places) e in
-      accepted unsurveyed _ (pmtRefusals s) (g .0) ∙ ap (λ (n : Noted). record { answer = given (n .found); places = n .places }) (sym (g .1))
+      let g = given-by (pmtRefusals s) (leavesIn 0 0 s unnoted) (leaves f places) e in
+      accepted unsurveyed _ (pmtRefusals s) (g .0) ∙ ap (λ (n : Leaves). record { answer = given (n .found); places = n .places }) (sym (g .1))
 
   pub survey-refused : (n : ℕ) → runOf 0 0 s unnoted ≡ refused n → surveyOf s ≡ unsurveyed n
-  survey-refused n e = Refusal.refused unsurveyed _ n (pmtRefusals s) (refused-by (pmtRefusals s) (notedIn 0 0 s unnoted) n e)
+  survey-refused n e = Refusal.refused unsurveyed _ n (pmtRefusals s) (refused-by (pmtRefusals s) (leavesIn 0 0 s unnoted) n e)
 
 -- ---- back from what a survey says
 module _ (s : List ℕ) where

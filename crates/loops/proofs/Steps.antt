@@ -10,7 +10,7 @@ use lib.Seq.{slice}
 use Rattle.ground.specs.Answer.{Answer, refused, given}
 use Rattle.psi.specs.Loop.{Loop, unfilled, onto}
 use Rattle.loops.specs.Loop.{Descriptor, Entry, descriptorsOf, entriesOf}
-use Rattle.loops.specs.Steps.{Met, met, foundAll, Noted, noted, toldWalk, begun, passed, seekIn, seek, walkEntries, walkDescriptors}
+use Rattle.loops.specs.Steps.{Met, met, foundAll, Leaves, leaves, toldWalk, begun, passed, seekIn, seek, walkEntries, walkDescriptors}
 use Rattle.loops.specs.Walk.{placed}
 use Rattle.loops.proofs.Loop.{no-descriptors, lone-byte, overrun, descriptor}
 use Rattle.loops.proofs.Entries.{wordFrom, no-entries, entry-short, entry-bits, entry-over, entry-on}
@@ -19,19 +19,19 @@ use Rattle.loops.proofs.Entries.{wordFrom, no-entries, entry-short, ent
 pub told-none : (n count place : ℕ) (places : List ℕ) → n ≡ 0 → toldWalk n count place places ≡ refused 26
 told-none n count place places e = rw e refl
 
-pub told-whole : (n count place : ℕ) (places : List ℕ) → 0 < n → toldWalk n count place places ≡ given (noted (foundAll n (met count place)) places)
+pub told-whole : (n count place : ℕ) (places : List ℕ) → 0 < n → toldWalk n count place places ≡ given (leaves (foundAll n (met count place)) places)
 told-whole zero count place places h = absurd (not-suc-le-zero h)
 told-whole (suc n) count place places h = refl
 
 module _ (asked item : ℕ) where
   -- what the walk says of loops that were read
-  abbrev saidEntries : ℕ → Met → List ℕ → Loop Entry → Answer Noted
-  saidEntries number m places es = cond (es .fills) (given (noted (seek asked item number m (es .items)) (placed number places (es .items)))) (refused 26)
+  abbrev saidEntries : ℕ → Met → List ℕ → Loop Entry → Answer Leaves
+  saidEntries number m places es = cond (es .fills) (given (leaves (seek asked item number m (es .items)) (placed number places (es .items)))) (refused 26)
 
-  abbrev saidBoth : ℕ → Met → List ℕ → Loop Entry → Loop Descriptor → Answer Noted
+  abbrev saidBoth : ℕ → Met → List ℕ → Loop Entry → Loop Descriptor → Answer Leaves
   saidBoth number m places es ds =
       cond (ds .fills && es .fills)
-      (given (noted (seek asked item (number + 1) (seekIn asked item number m (ds .items)) (es .items)) (placed (number + 1) places (es .items))))
+      (given (leaves (seek asked item (number + 1) (seekIn asked item number m (ds .items)) (es .items)) (placed (number + 1) places (es .items))))
       (refused 26)
 
   -- an entry whose tests pass is a loop of descriptors with entries after it
@@ -42,7 +42,7 @@ module _ (asked item : ℕ) where
   let-in number m places at lead false ds es = refl
 
   module _ (b : List ℕ) (at number : ℕ) (m : Met) (places : List ℕ) where
-    pub entries-end : at ≡ length b → walkEntries asked item b at number m places ≡ given (noted (foundAll number m) places)
+    pub entries-end : at ≡ length b → walkEntries asked item b at number m places ≡ given (leaves (foundAll number m) places)
     unfolding walkEntries
     entries-end e = ap (saidEntries number m places) (no-entries b at e)
 

@@ -28,17 +28,17 @@ abbrev pub foundAll : ℕ → Met → Found
 foundAll loops m = found (loops - 1) (m .count) (m .place)
 
 -- what a whole walk leaves: what it found, and the places of the entries
-pub record Noted : Type 0 where
+pub record Leaves : Type 0 where
   pub found : Found
   pub places : List ℕ
 
-abbrev pub noted : Found → List ℕ → Noted
-noted f places = record { found = f; places = places }
+abbrev pub leaves : Found → List ℕ → Leaves
+leaves f places = record { found = f; places = places }
 
 -- what the number says that a walker answers: there is at least the program's loop
-abbrev pub toldWalk : ℕ → ℕ → ℕ → List ℕ → Answer Noted
+abbrev pub toldWalk : ℕ → ℕ → ℕ → List ℕ → Answer Leaves
 toldWalk zero count place places = refused 26
-toldWalk (suc n) count place places = given (noted (foundAll (suc n) (met count place)) places)
+toldWalk (suc n) count place places = given (leaves (foundAll (suc n) (met count place)) places)
 
 -- the loop with the number `asked` is asked for, and in it an item: item 0 is the entry, item i + 1 its descriptor i
 module _ (asked item : ℕ) where
@@ -64,18 +64,18 @@ module _ (asked item : ℕ) where
   seek number m (e ∷ es) = seek (number + 1) (seekIn number (begun number (e .at) m) (e .descriptors)) es
 
   -- the walk over the entries from `at` on
-  unfoldable pub walkEntries : List ℕ → ℕ → ℕ → Met → List ℕ → Answer Noted
+  unfoldable pub walkEntries : List ℕ → ℕ → ℕ → Met → List ℕ → Answer Leaves
   walkEntries b at number m places =
       let es = entriesOf at (drop at b) in
-      cond (es .fills) (given (noted (seek number m (es .items)) (placed number places (es .items)))) (refused 26)
+      cond (es .fills) (given (leaves (seek number m (es .items)) (placed number places (es .items)))) (refused 26)
 
   -- the walk over the descriptors from `at` to `stop`, and then over the entries from `stop` on
-  unfoldable pub walkDescriptors : List ℕ → ℕ → ℕ → ℕ → Met → List ℕ → Answer Noted
+  unfoldable pub walkDescriptors : List ℕ → ℕ → ℕ → ℕ → Met → List ℕ → Answer Leaves
   walkDescriptors b at stop number m places =
       let ds = descriptorsOf at (slice at stop b) in
       let es = entriesOf stop (drop stop b) in
       cond (ds .fills && es .fills)
-      (given (noted (seek (number + 1) (seekIn number m (ds .items)) (es .items)) (placed (number + 1) places (es .items))))
+      (given (leaves (seek (number + 1) (seekIn number m (ds .items)) (es .items)) (placed (number + 1) places (es .items))))
       (refused 26)
 
   -- what the walk over a section's body meets
@@ -83,18 +83,18 @@ module _ (asked item : ℕ) where
   metIn s = seek 1 (seekIn 0 (met 0 0) (programOf s .items)) (streamsOf s .items)
 
   -- what a walk over a section is to leave
-  abbrev pub notedIn : List ℕ → List ℕ → Noted
-  notedIn s places = noted (foundIn s asked item) (placed 1 places (streamsOf s .items))
+  abbrev pub leavesIn : List ℕ → List ℕ → Leaves
+  leavesIn s places = leaves (foundIn s asked item) (placed 1 places (streamsOf s .items))
 
   -- what walking over the body of a section answers, where all before its loops passes
-  abbrev pub bodyWalkedOf : List ℕ → List ℕ → Answer Noted
-  bodyWalkedOf s places = judge refused (pmtLoops s) (given (notedIn s places))
+  abbrev pub bodyWalkedOf : List ℕ → List ℕ → Answer Leaves
+  bodyWalkedOf s places = judge refused (pmtLoops s) (given (leavesIn s places))
 
   -- the same of the section, or the first refusal that applies
-  abbrev pub runOf : List ℕ → List ℕ → Answer Noted
-  runOf s places = judge refused (pmtRefusals s) (given (notedIn s places))
+  abbrev pub runOf : List ℕ → List ℕ → Answer Leaves
+  runOf s places = judge refused (pmtRefusals s) (given (leavesIn s places))
 
 -- what the answer of `run` says, with the places that it leaves
-abbrev pub toldRun : Walked → List ℕ → Answer Noted
-toldRun (walked.Whole entries descriptors place) places = given (noted (found entries descriptors place) places)
+abbrev pub toldRun : Walked → List ℕ → Answer Leaves
+toldRun (walked.Whole entries descriptors place) places = given (leaves (found entries descriptors place) places)
 toldRun (walked.Refused n) places = refused n

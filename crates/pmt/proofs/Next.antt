@@ -4,7 +4,7 @@ use mathlib.Core.Path.{_≡_, refl, sym, _∙_, ap, ap₂}
 use mathlib.Core.Bool.{Bool, true, false}
 use mathlib.Core.List.{List, [], _∷_}
 use mathlib.Core.Logic.{_⊎_, inl, inr, ⊎-elim}
-use Prim.Native.Nat.{ℕ, _+_, _≤_, _<_}
+use Prim.Native.Nat.{ℕ, _+_, _≤_}
 use native.Mathlib.Nat.{le-refl}
 use native.Mathlib.Omega.{arith}
 use borrow.Author.Tests.{leb-true, leb-false, ltb-true, ltb-false}
@@ -17,7 +17,7 @@ use Rattle.ground.proofs.Answer.{given-apart, refused-same}
 use Rattle.ground.proofs.Judged.{given-by}
 use Rattle.psi.specs.Section.{byteAt}
 use Rattle.psi.specs.Loop.{Loop, filled, unfilled, onto}
-use Rattle.loops.specs.Loop.{Descriptor, descriptorsOf}
+use Rattle.loops.specs.Loop.{descriptorsOf}
 use Rattle.loops.proofs.Loop as loop
 use Rattle.loops.proofs.Unrolls as unrolls
 use Rattle.pmt.specs.Answers.{DescriptorPlace}

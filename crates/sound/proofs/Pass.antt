@@ -108,13 +108,13 @@ apart-now met f g unmet marked = go (isOpen f) refl (ℕ-discrete (f .number) (g
         (ap (λ (n : ℕ). not (eqb n 0)) (ap (λ (n : ℕ). getD met (n % 256) 0) (sym q) ∙ marked e))))
 
 -- so a filter whose class is not met is new, as one is that was compared with those before it
-abbrev IsNew : List Filter → ℕ → Type 0
-IsNew filters i = (j : ℕ) → j < i → sameNumber (getD filters j freeFilter) (getD filters i freeFilter) ≡ false
+abbrev NoneBefore : List Filter → ℕ → Type 0
+NoneBefore filters i = (j : ℕ) → j < i → sameNumber (getD filters j freeFilter) (getD filters i freeFilter) ≡ false
 
-unmet-new : (filters : List Filter) (met : List ℕ) (i : ℕ) → Met filters met i → isMet met (getD filters i freeFilter) ≡ false → IsNew filters i
+unmet-new : (filters : List Filter) (met : List ℕ) (i : ℕ) → Met filters met i → isMet met (getD filters i freeFilter) ≡ false → NoneBefore filters i
 unmet-new filters met i m unmet j h = apart-now met (getD filters j freeFilter) (getD filters i freeFilter) unmet (m .marked j h)
 
-met-turn : (filters : List Filter) (met : List ℕ) (i : ℕ) → length met ≡ 256 → IsNew filters i → Met filters met i
+met-turn : (filters : List Filter) (met : List ℕ) (i : ℕ) → length met ≡ 256 → NoneBefore filters i → Met filters met i
     → Met filters (metIn met (getD filters i freeFilter)) (i + 1)
 met-turn filters met i long new m = record { marked = marks; differ = differs }
   where
@@ -321,7 +321,7 @@ module _ (next : ℕ) (filters : List Filter) (counts met numbers : List ℕ) (i
     here : i < length filters
     here = rw long h
 
-    passed-turn : fitsPlace next own ≡ true → IsNew filters i → After
+    passed-turn : fitsPlace next own ≡ true → NoneBefore filters i → After
     passed-turn fits new =
         record {
           bound = omega arith;

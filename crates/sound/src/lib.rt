@@ -1,4 +1,4 @@
-// Whether a state is sound: each clause of "Sound means", in one pass over the areas and one over the filter places.
+// Whether a state is sound, each clause of "Sound means": one pass over the areas, one over the filter places, and the areas' users held to what the second counted.
 ghost use mathlib.Core.Path.{_≡_};
 ghost use mathlib.Core.Bool.{true, _&&_};
 ghost use Prim.Native.Nat.{ℕ, _≤_, _<_};
@@ -118,8 +118,8 @@ fn counts_agree(counts: [u8; AREAS], areas: [Area; AREAS]) -> bool
     true
 }
 
-// How many places there are up to the last that is not all zero.
-fn places_used(filters: [Filter; PLACES]) -> usize
+// How many places there are up to the last that is not all zero: those behind it need no pass.
+fn end_of_places(filters: [Filter; PLACES]) -> usize
     ensures { λ r. ⌜ (r ≤ 32) × (all isZeroPlace (drop r filters) ≡ true) ⌝ }
 {
     let mut end: usize = PLACES;
@@ -137,7 +137,7 @@ fn places_used(filters: [Filter; PLACES]) -> usize
 fn places_are_sound(areas: [Area; AREAS], filters: [Filter; PLACES], next: u32) -> bool
     ensures { λ r. ⌜ r ≡ (all (soundFilter next areas) filters && apart sameNumber filters && counted filters 0 areas) ⌝ }
 {
-    let end = places_used(filters);
+    let end = end_of_places(filters);
     let mut counts = [0u8; AREAS];
     let mut met = [0u8; 256];
     let mut numbers = [0u16; PLACES];

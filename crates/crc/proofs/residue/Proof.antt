@@ -1,7 +1,7 @@
 -- `crc::residue` meets its contract: at index i the register, when it has gone through and with the bytes from i on still to go in, ends at the residue; a turn adds four bytes.
 -- Assumes nothing.
 use mathlib.Core.Path.{_≡_, sym, _∙_, ap}
-use Prim.Native.Nat.{ℕ, _+_, _-_, _%_, _≤_, _<_, _^_}
+use Prim.Native.Nat.{_+_, _-_, _%_, _≤_, _<_, _^_}
 use native.Mathlib.Omega.{arith}
 use borrow.Author.Needs.{needs}
 use lib.Bits.{xor-lt}

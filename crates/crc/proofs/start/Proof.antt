@@ -1,7 +1,6 @@
 -- `crc::start` meets its contract: the shifts of each register are computed.
 -- Assumes nothing.
 use mathlib.Core.Path.{_≡_, refl}
-use Prim.Native.Nat.{ℕ}
 use native.Mathlib.Omega.{arith}
 use Rattle.crc_table.specs.Table.{shiftOf}
 use Rattle.crc.proofs.start.Statement.{statement}

@@ -1,7 +1,7 @@
 -- `crc::word` meets its contract: none of the four bytes moves past the register's top.
 -- Assumes nothing.
 use mathlib.Core.Path.{_≡_, ap₂, sym, _∙_}
-use Prim.Native.Nat.{ℕ, _*_, _%_, _^_}
+use Prim.Native.Nat.{_*_, _%_, _^_}
 use native.Mathlib.Nat.{mul-one}
 use native.Mathlib.Omega.{arith}
 use lib.Bits.{bitXor, xor-zero-r}

@@ -8,7 +8,7 @@ use Rattle.ground.proofs.Judged.{goes-on, stays-refused}
 use Rattle.psi.specs.Answers.{toldJudged}
 use Rattle.psi.specs.Refusals.{shared, verdictOf}
 use Rattle.loops.specs.Body.{pmtOwn, pmtLoops}
-use Rattle.loops.specs.Steps.{toldWalk, notedIn, runOf}
+use Rattle.loops.specs.Steps.{toldWalk, leavesIn, runOf}
 use Rattle.loops.proofs.Passed.{pmt-fine}
 use Rattle.loops.proofs.Steps.{told-none, told-whole}
 use borrow.Author.Needs.{needs}
@@ -25,7 +25,7 @@ walks : (c : tie.After-walk-body) → let a = c .before .before .before .before 
 walks c =
     let a = c .before .before .before .before .before .before .before .before .args in
     let s = a .section .now in
-    c .walk-body .ensures ∙ sym (goes-on tt (notedIn (a .asked) (a .item) s (a .places .now)) (shared 2 13 s ++ pmtOwn s) tt (passes (c .before .before .before .before)) (pmtLoops s))
+    c .walk-body .ensures ∙ sym (goes-on tt (leavesIn (a .asked) (a .item) s (a .places .now)) (shared 2 13 s ++ pmtOwn s) tt (passes (c .before .before .before .before)) (pmtLoops s))
 
 judge-requires : tie.Need-judge-requires
 judge-requires c κs = search needs
@@ -54,7 +54,7 @@ returns-2 c =
     let a = c .before .before .before .before .before .args in
     let s = a .section .now in
     let e = sym (c .before .before .before .judge .ensures) ∙ ap toldJudged (c .before .verdict .given .1) in
-    sym (stays-refused tt (notedIn (a .asked) (a .item) s (a .places .now)) (shared 2 13 s ++ pmtOwn s) _ e (pmtLoops s))
+    sym (stays-refused tt (leavesIn (a .asked) (a .item) s (a .places .now)) (shared 2 13 s ++ pmtOwn s) _ e (pmtLoops s))
 
 returns-3 : tie.Need-returns-3
 returns-3 c = sym (told-whole _ _ _ _ (omega arith)) ∙ walks (c .before)

@@ -22,8 +22,8 @@ Inv-loop areas next filters end counts₀ met₀ numbers₀ i₀ counts met numb
 abbrev μ-loop : tie.MeasureT-loop
 μ-loop areas next filters end counts₀ met₀ numbers₀ i₀ counts met numbers i = end - i
 
-places-used-requires : tie.Need-places-used-requires Inv-loop μ-loop
-places-used-requires c κs = search needs
+end-of-places-requires : tie.Need-end-of-places-requires Inv-loop μ-loop
+end-of-places-requires c κs = search needs
 
 loop-holds : tie.Need-loop-holds Inv-loop μ-loop
 loop-holds c = let a = c .before .args in let long : length (a .t2) ≡ 32 = search needs in (passed-none (a .next) (a .t2) long, omega arith)
@@ -32,7 +32,7 @@ mul-filter : tie.Need-mul-filter Inv-loop μ-loop
 mul-filter c = search needs
 
 array-copy-out-filter : tie.Need-array-copy-out-filter Inv-loop μ-loop
-array-copy-out-filter c = let few = c .before .before .places-used .ensures .0 in search needs
+array-copy-out-filter c = let few = c .before .before .end-of-places .ensures .0 in search needs
 
 fits-place-requires : tie.Need-fits-place-requires Inv-loop μ-loop
 fits-place-requires c κs = search needs
@@ -45,7 +45,7 @@ returns c =
     let long : length (a .t2) ≡ 32 = search needs in
     sym
     (clauses-ranged (a .next) (a .areas) (a .t2) eight
-    (all-stops (fitsPlace (a .next)) (a .t2) (at .i) (all (fitsPlace (a .next)) (a .t2)) (at .inv .0 .ranged) freeFilter (omega (arith, c .before .before .before .before .before .places-used .ensures .0))
+    (all-stops (fitsPlace (a .next)) (a .t2) (at .i) (all (fitsPlace (a .next)) (a .t2)) (at .inv .0 .ranged) freeFilter (omega (arith, c .before .before .before .before .before .end-of-places .ensures .0))
     (sym (c .before .fits-place .ensures) ∙ not-true _ (c .if1 .taken))))
 
 tally-requires : tie.Need-tally-requires Inv-loop μ-loop
@@ -70,7 +70,7 @@ returns-2 c =
     let at = c .before .before .before .before .before .before .before .before .before .before .before .loop in
     let eight : length (a .areas) ≡ 8 = search needs in
     let long : length (a .t2) ≡ 32 = search needs in
-    let inside : at .i < 32 = omega (arith, c .before .before .before .before .before .before .before .before .before .before .before .before .places-used .ensures .0) in
+    let inside : at .i < 32 = omega (arith, c .before .before .before .before .before .before .before .before .before .before .before .before .end-of-places .ensures .0) in
     sym
     (clauses-apart (a .next) (a .areas) (a .t2) eight
     (passed-met (a .next) (a .t2) (at .counts) (at .met) (at .numbers) (at .i) long (at .inv .0) inside (sym (c .before .before .before .before .tally .ensures .0) ∙ c .before .before .before .if2 .taken)
@@ -80,10 +80,10 @@ mul-numbers : tie.Need-mul-numbers Inv-loop μ-loop
 mul-numbers c = search needs
 
 array-write-numbers : tie.Need-array-write-numbers Inv-loop μ-loop
-array-write-numbers c = let few = c .before .before .before .before .before .before .before .before .before .places-used .ensures .0 in search needs
+array-write-numbers c = let few = c .before .before .before .before .before .before .before .before .before .end-of-places .ensures .0 in search needs
 
 add-i : tie.Need-add-i Inv-loop μ-loop
-add-i c = let few = c .before .before .before .before .before .before .before .before .before .places-used .ensures .0 in search needs
+add-i c = let few = c .before .before .before .before .before .before .before .before .before .end-of-places .ensures .0 in search needs
 
 loop-less : tie.Need-loop-less Inv-loop μ-loop
 loop-less c = search needs
@@ -95,7 +95,7 @@ loop-again c =
     let fits = sym (c .before .before .before .before .before .fits-place .ensures) ∙ not-false _ (c .before .before .before .before .if1 .left) in
     let tallied = c .before .tally .ensures in
     let long : length (a .t2) ≡ 32 = search needs in
-    let inside : at .i < 32 = omega (arith, c .before .before .before .before .before .before .before .before .before .places-used .ensures .0) in (
+    let inside : at .i < 32 = omega (arith, c .before .before .before .before .before .before .before .before .before .end-of-places .ensures .0) in (
       rw (tallied .1, tallied .2)
           (⊎-elim
           (λ w. passed-compared (a .next) (a .t2) (at .counts) (at .met) (at .numbers) (at .i) long (at .inv .0) inside fits (sym (w .2 .ensures) ∙ not-false _ (w .3 .left)))
@@ -113,8 +113,8 @@ returns-3 c =
     let at = c .before .before .loop in
     let eight : length (a .areas) ≡ 8 = search needs in
     let long : length (a .t2) ≡ 32 = search needs in
-    let done : at .i ≡ c .before .before .before .places-used .result = omega (arith, c .before .loop-test .left, at .inv .1) in
-    let zeros : all isZeroPlace (drop (at .i) (a .t2)) ≡ true = ap (λ (n : ℕ). all isZeroPlace (drop n (a .t2))) done ∙ c .before .before .before .places-used .ensures .1 in
+    let done : at .i ≡ c .before .before .before .end-of-places .result = omega (arith, c .before .loop-test .left, at .inv .1) in
+    let zeros : all isZeroPlace (drop (at .i) (a .t2)) ≡ true = ap (λ (n : ℕ). all isZeroPlace (drop n (a .t2))) done ∙ c .before .before .before .end-of-places .ensures .1 in
     c .counts-agree .ensures
     ∙ passed-counts (a .next) (a .t2) (at .counts) (at .met) (at .numbers) (at .i) long (at .inv .0) zeros (a .areas) eight
     ∙ sym
@@ -128,7 +128,7 @@ places-are-sound-spec =
     (tie.spec
     Inv-loop
     μ-loop
-    places-used-requires
+    end-of-places-requires
     loop-holds
     mul-filter
     array-copy-out-filter

@@ -1,6 +1,5 @@
 -- A filter a turn.
 -- Assumes nothing.
-use native.Mathlib.Omega.{arith}
 use borrow.Author.Needs.{needs}
 use Prim.Native.Nat.{_≤_, _-_}
 use Rattle.bench.proofs.filters.opened.Statement.{statement}

@@ -12,8 +12,8 @@ use Rattle.ground.proofs.Walk.{all-turn}
 use Rattle.state.specs.State.{freeFilter}
 use Rattle.sound.specs.Steps.{isZeroPlace}
 use Rattle.sound.proofs.Pass.{zero-place}
-use Rattle.sound.proofs.places_used.Statement.{statement}
-use Rattle.sound.proofs.places_used.Tie as tie
+use Rattle.sound.proofs.end_of_places.Statement.{statement}
+use Rattle.sound.proofs.end_of_places.Tie as tie
 
 abbrev Inv-loop : tie.InvT-loop
 Inv-loop filters end₀ end = (end ≤ 32) × (all isZeroPlace (drop end filters) ≡ true)
@@ -59,6 +59,6 @@ loop-again c =
 returns-2 : tie.Need-returns-2 Inv-loop μ-loop
 returns-2 c = let none : c .before .loop .end ≡ 0 = omega arith in (omega arith, ap (λ (n : ℕ). all isZeroPlace (drop n (c .before .before .args .t1))) (sym none) ∙ c .before .loop .inv .1)
 
-pub places-used-spec : {M : Type 1} → statement M
-places-used-spec =
+pub end-of-places-spec : {M : Type 1} → statement M
+end-of-places-spec =
     tie.close (tie.spec Inv-loop μ-loop loop-holds sub-filter mul-filter array-copy-out-filter returns sub-end loop-less loop-again returns-2)
