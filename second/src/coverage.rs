@@ -1,7 +1,11 @@
 //! Counts what outcomes hold, and names what they lack.
 
+mod states;
+
 use std::collections::BTreeMap;
 use std::io::{self, BufRead, Write};
+
+use states::{Shown, States};
 
 /// The least number of outcomes of each call word.
 const LEAST: u64 = 20_000;
@@ -33,11 +37,13 @@ const CALLS: [(&str, &[u32]); 22] = [
 ];
 
 /// Things that must occur beside the refusals.
-const MARKS: [&str; 14] = [
+const MARKS: [&str; 16] = [
     "wanted",
     "unwanted",
     "jump",
     "repeat",
+    "repeated",
+    "stuck",
     "cut1",
     "cut2",
     "sections61",
@@ -58,6 +64,7 @@ const REFUSALS: [u32; 34] = [
 #[derive(Default)]
 pub struct Counts {
     of: BTreeMap<String, u64>,
+    states: States,
 }
 
 impl Counts {
@@ -78,20 +85,24 @@ impl Counts {
     pub fn outcome(&mut self, line: &str) {
         let parts: Vec<&str> = line.split(' ').collect();
         self.add(&format!("call {}", parts[0]));
+        let shown = self.states.shown(&parts);
+        if shown.repeated {
+            self.add("repeated");
+        }
         match parts.get(1) {
             Some(&"refused") => {
                 let number = parts.get(2).copied().unwrap_or("-");
                 self.add(&format!("refused {}", number));
                 self.add(&format!("{} {}", parts[0], number));
             }
-            Some(&"wanted") => self.wanted(&parts),
+            Some(&"wanted") => self.wanted(&parts, &shown),
             Some(word) if MARKS.contains(word) => self.add(word),
             _ if line == "bad" => self.add("bad"),
             _ => {}
         }
     }
 
-    fn wanted(&mut self, parts: &[&str]) {
+    fn wanted(&mut self, parts: &[&str], shown: &Shown) {
         self.add("wanted");
         let marks = [
             (2, "61", "sections61"),
@@ -104,6 +115,9 @@ impl Counts {
             if parts.get(place) == Some(&value) {
                 self.add(name);
             }
+        }
+        if parts.get(5) == Some(&"1") && shown.forgot {
+            self.add("stuck");
         }
     }
 }

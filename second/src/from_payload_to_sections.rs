@@ -1,4 +1,4 @@
-//! Document 01, "From payload to sections": the packet call on whole buffers.
+//! Document 01, "From payload to sections", with request 3 of document 02: the packet call on whole buffers.
 
 use crate::bytes::number_in;
 use crate::numbers_of_the_house::{
@@ -6,7 +6,7 @@ use crate::numbers_of_the_house::{
 };
 use crate::refusal_numbers::{demand, Refusal};
 use crate::soundness::sound;
-use crate::state::State;
+use crate::state::{Area, State};
 use crate::the_packet::{read_packet, Reading};
 
 #[derive(Clone, Copy, Debug, Default, PartialEq, Eq)]
@@ -84,6 +84,16 @@ fn pointer_leaves_nothing(reading: &Reading, payload: &[u8]) -> bool {
     reading.unit_start && pointer.map_or(false, |pointer| pointer + 1 >= payload.len())
 }
 
+/// The marks of a payload, which its counter and the area's record decide, never its bytes.
+fn jump_and_repeat(record: &Area, counter: u8) -> (bool, bool) {
+    match (16 + counter - record.counter) % 16 {
+        _ if !record.has_seen() => (false, false),
+        0 if !record.has_repeated() => (false, true),
+        1 => (false, false),
+        _ => (true, false),
+    }
+}
+
 /// Marks repeat and jump, sets the area's record and gathers what is not dropped.
 fn take_payload(
     state: &mut State,
@@ -94,15 +104,16 @@ fn take_payload(
     answer: &mut Wanted,
 ) -> Gathered {
     let record = &mut state.areas[area];
-    let step = (16 + reading.counter - record.counter) % 16;
-    answer.repeat = record.has_seen() && step == 0;
-    answer.jump = record.has_seen() && step > 1;
+    let (jump, repeat) = jump_and_repeat(record, reading.counter);
+    answer.jump = jump;
+    answer.repeat = repeat;
     let mut gathered = Gathered::default();
-    if answer.repeat {
+    if repeat {
+        record.repeated = 1;
         gathered.held = held;
         return gathered;
     }
-    if answer.jump && !held.is_empty() {
+    if jump && !held.is_empty() {
         gathered.given_up += 1;
         held.clear();
     }
@@ -115,6 +126,7 @@ fn take_payload(
     }
     record.seen = 1;
     record.counter = reading.counter;
+    record.repeated = 0;
     record.held = gathered.held.len() as u16;
     gathered
 }

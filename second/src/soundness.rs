@@ -1,11 +1,11 @@
-//! Document 01, "Filters and areas": the clauses of "Sound means", one function each.
+//! Document 01, "Filters and areas", with request 3 of document 02: the clauses of "Sound means", one function each.
 
 use crate::numbers_of_the_house::{AREAS, AREA_BYTES, LAST_FILTER_PID, LAST_NUMBER};
 use crate::state::{Area, Place, State};
 
 pub type Clause = fn(&State) -> bool;
 
-pub const CLAUSES: [Clause; 12] = [
+pub const CLAUSES: [Clause; 14] = [
     used_areas_have_different_pids,
     used_areas_have_pids_for_filters,
     user_counts_are_the_open_filters,
@@ -14,8 +14,10 @@ pub const CLAUSES: [Clause; 12] = [
     the_next_number_is_in_range,
     held_bytes_are_below_a_whole_area,
     areas_without_counter_hold_nothing,
+    areas_without_counter_saw_no_repeat,
     areas_with_counter_have_four_bits,
     marks_of_a_counter_are_0_or_1,
+    marks_of_a_repeat_are_0_or_1,
     open_filters_stand_on_used_areas,
     free_records_are_zero,
 ];
@@ -79,12 +81,20 @@ pub fn areas_without_counter_hold_nothing(state: &State) -> bool {
     unseen.all(|area| area.held == 0 && area.counter == 0)
 }
 
+pub fn areas_without_counter_saw_no_repeat(state: &State) -> bool {
+    used(state).all(|area| area.has_seen() || !area.has_repeated())
+}
+
 pub fn areas_with_counter_have_four_bits(state: &State) -> bool {
     used(state).all(|area| !area.has_seen() || area.counter <= 15)
 }
 
 pub fn marks_of_a_counter_are_0_or_1(state: &State) -> bool {
     used(state).all(|area| area.seen <= 1)
+}
+
+pub fn marks_of_a_repeat_are_0_or_1(state: &State) -> bool {
+    used(state).all(|area| area.repeated <= 1)
 }
 
 pub fn open_filters_stand_on_used_areas(state: &State) -> bool {

@@ -1,4 +1,4 @@
-//! Document 01, "Filters and areas": the records that a state is made of.
+//! Document 01, "Filters and areas", with request 3 of document 02: the records that a state is made of.
 
 use crate::numbers_of_the_house::{AREAS, PLACES};
 
@@ -9,6 +9,7 @@ pub struct Area {
     pub held: u16,
     pub seen: u8,
     pub counter: u8,
+    pub repeated: u8,
 }
 
 impl Area {
@@ -19,6 +20,11 @@ impl Area {
     /// Whether the record says that a counter was seen.
     pub fn has_seen(&self) -> bool {
         self.seen != 0
+    }
+
+    /// Whether the record says that the last original's repeat was seen.
+    pub fn has_repeated(&self) -> bool {
+        self.repeated != 0
     }
 }
 

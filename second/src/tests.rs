@@ -1,10 +1,13 @@
-//! Document 01's examples, and what the commands promise.
+//! The documents' examples, and what the commands promise.
 
 mod commands;
+mod counts;
+mod driver;
 mod filters;
 mod gathering;
 mod lines;
 mod recordings;
+mod repeats;
 mod sound;
 mod table_examples;
 mod time_examples;

@@ -62,9 +62,11 @@ fn without_user(area: Area) -> Area
             pid: Pid(0),
             users: 0,
             marks: Marks {
-                held: 0,
+                held_low: 0,
+                held_high: 0,
                 seen: 0,
                 counter: 0,
+                repeated: 0,
             },
         };
     }

@@ -8,6 +8,7 @@ use Rattle.ground.specs.House.{storeBytes, lastNumber, leastOutput, lastFilterP
 use Rattle.ground.specs.Answer.{Answer, refused, given}
 use Rattle.ground.specs.Walk.{all}
 use Rattle.ground.specs.Write.{put}
+use Rattle.gather.specs.Memory.{marksAs}
 use Rattle.state.specs.State.{fresh, isUsed, freePlaceOf}
 use Rattle.state.specs.declared.State.{State}
 use Rattle.sound.specs.Sound.{sound}
@@ -49,7 +50,7 @@ Right lastByteHeld =
       answer = given (record { wanted = true; sections = 0; bytes = 0; places = 1; jump = false; repeat = false; givenUp = 0 });
       state =
           record {
-            areas = set (zeroOpen .areas) 0 (record { pid = record { 0 = 0 }; users = 1; marks = record { held = 1; seen = 1; counter = 0 } });
+            areas = set (zeroOpen .areas) 0 (record { pid = record { 0 = 0 }; users = 1; marks = marksAs 1 1 0 0 });
             filters = zeroOpen .filters;
             next = zeroOpen .next;
           };

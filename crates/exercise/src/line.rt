@@ -2,6 +2,9 @@
 ghost use Prim.Native.Nat.{_<_};
 ghost use mathlib.Core.Path.{_≡_};
 
+// The numbers of a line, up to seven of them.
+pub(crate) type Values = [u64; 7];
+
 // What the next byte belongs to.
 enum Part {
     Word,
@@ -15,7 +18,7 @@ pub(crate) struct Line {
     part: Part,
     pub(crate) word: u64,
     letters: u8,
-    pub(crate) numbers: [u64; 6],
+    pub(crate) numbers: Values,
     pub(crate) count: usize,
     value: u64,
     digits: u8,
@@ -32,7 +35,7 @@ impl Line {
             part: Part::Word,
             word: 0,
             letters: 0,
-            numbers: [0; 6],
+            numbers: [0; 7],
             count: 0,
             value: 0,
             digits: 0,
@@ -136,7 +139,7 @@ impl Line {
         if self.digits == 0 {
             return self.spoiled();
         }
-        if 6 <= count {
+        if 7 <= count {
             return self.spoiled();
         }
         let mut next = self;

@@ -1,6 +1,7 @@
 // The lines that read or write lent bytes and need nothing that is kept.
 use crate::buffers::first_mut;
 use crate::line::Line;
+use crate::line::Values;
 use crate::line::eight_bits;
 use crate::line::sixteen_bits;
 use crate::outcome;
@@ -72,7 +73,7 @@ fn written(answer: Written, text: &mut [u8], at: usize) -> usize {
 }
 
 // A stamp written to the line's bytes.
-fn set_stamp(n: [u64; 6], bytes: &mut [u8], text: &mut [u8], at: usize) -> usize {
+fn set_stamp(n: Values, bytes: &mut [u8], text: &mut [u8], at: usize) -> usize {
     let answer = stamp::write(bytes, eight_bits(n[0]), Stamp(n[1]));
     let mut end = text::word(text, at, b"setstamp");
     end = written(answer, text, end);
@@ -80,7 +81,7 @@ fn set_stamp(n: [u64; 6], bytes: &mut [u8], text: &mut [u8], at: usize) -> usize
 }
 
 // A clock reference written to the line's bytes.
-fn set_clock(n: [u64; 6], bytes: &mut [u8], text: &mut [u8], at: usize) -> usize {
+fn set_clock(n: Values, bytes: &mut [u8], text: &mut [u8], at: usize) -> usize {
     let answer = reference::write(bytes, Reference(n[0]));
     let mut end = text::word(text, at, b"setclock");
     end = written(answer, text, end);
@@ -88,7 +89,7 @@ fn set_clock(n: [u64; 6], bytes: &mut [u8], text: &mut [u8], at: usize) -> usize
 }
 
 // The signed difference of two stamps.
-fn apart(n: [u64; 6], text: &mut [u8], at: usize) -> usize {
+fn apart(n: Values, text: &mut [u8], at: usize) -> usize {
     let end = text::word(text, at, b"apart");
     let answer = stamp::difference(Stamp(n[0]), Stamp(n[1]));
     match answer {
@@ -98,7 +99,7 @@ fn apart(n: [u64; 6], text: &mut [u8], at: usize) -> usize {
 }
 
 // The forward difference of two clock references.
-fn forward(n: [u64; 6], text: &mut [u8], at: usize) -> usize {
+fn forward(n: Values, text: &mut [u8], at: usize) -> usize {
     let end = text::word(text, at, b"forward");
     let answer = reference::forward(Reference(n[0]), Reference(n[1]));
     match answer {
@@ -108,7 +109,7 @@ fn forward(n: [u64; 6], text: &mut [u8], at: usize) -> usize {
 }
 
 // A PID made of a number.
-fn pid(n: [u64; 6], text: &mut [u8], at: usize) -> usize {
+fn pid(n: Values, text: &mut [u8], at: usize) -> usize {
     let end = text::word(text, at, b"pid");
     let answer = Pid::new(sixteen_bits(n[0]));
     match answer {

@@ -1,5 +1,6 @@
 // The records of a state, printed and set.
 use crate::line::Line;
+use crate::line::Values;
 use crate::line::eight_bits;
 use crate::line::sixteen_bits;
 use crate::outcome;
@@ -49,9 +50,10 @@ fn print_area(text: &mut [u8], at: usize, i: usize, area: Area) -> usize {
     let pid = area.pid;
     if (pid.0 == 0)
         & (area.users == 0)
-        & (marks.held == 0)
+        & (gather::held_of(marks) == 0)
         & (marks.seen == 0)
         & (marks.counter == 0)
+        & (marks.repeated == 0)
     {
         return at;
     }
@@ -60,9 +62,10 @@ fn print_area(text: &mut [u8], at: usize, i: usize, area: Area) -> usize {
         i as u64,
         pid.0 as u64,
         area.users as u64,
-        marks.held as u64,
+        gather::held_of(marks) as u64,
         marks.seen as u64,
         marks.counter as u64,
+        marks.repeated as u64,
     ];
     outcome::numbers(text, end, &row)
 }
@@ -78,7 +81,7 @@ fn print_place(text: &mut [u8], at: usize, i: usize, filter: Filter) -> usize {
 }
 
 // The state with an area's record set, where there is such an area.
-pub(crate) fn with_area(state: State, numbers: [u64; 6]) -> State {
+pub(crate) fn with_area(state: State, numbers: Values) -> State {
     let mut next = state;
     let mut areas = state.areas;
     let i = numbers[0] as usize;
@@ -86,9 +89,11 @@ pub(crate) fn with_area(state: State, numbers: [u64; 6]) -> State {
         return state;
     }
     let marks = Marks {
-        held: sixteen_bits(numbers[3]),
+        held_low: eight_bits(numbers[3]),
+        held_high: eight_bits(numbers[3] / 256),
         seen: eight_bits(numbers[4]),
         counter: eight_bits(numbers[5]),
+        repeated: eight_bits(numbers[6]),
     };
     areas[i] = Area {
         pid: Pid(sixteen_bits(numbers[1])),
@@ -100,7 +105,7 @@ pub(crate) fn with_area(state: State, numbers: [u64; 6]) -> State {
 }
 
 // The state with a place's record set, where there is such a place.
-pub(crate) fn with_place(state: State, numbers: [u64; 6]) -> State {
+pub(crate) fn with_place(state: State, numbers: Values) -> State {
     let mut next = state;
     let mut filters = state.filters;
     let i = numbers[0] as usize;
@@ -118,7 +123,13 @@ pub(crate) fn with_place(state: State, numbers: [u64; 6]) -> State {
 // Whether an area's numbers are in their ranges.
 pub(crate) fn is_area(line: Line) -> bool {
     let n = line.numbers;
-    (n[0] < 8) & (n[1] < 65536) & (n[2] < 256) & (n[3] < 65536) & (n[4] < 256) & (n[5] < 256)
+    (n[0] < 8)
+        & (n[1] < 65536)
+        & (n[2] < 256)
+        & (n[3] < 65536)
+        & (n[4] < 256)
+        & (n[5] < 256)
+        & (n[6] < 256)
 }
 
 // Whether a place's numbers are in their ranges.

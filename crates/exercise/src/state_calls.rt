@@ -83,7 +83,7 @@ fn on_state(line: Line, state: State, bytes: &mut [u8], text: &mut [u8], at: usi
         return After { state, at: end };
     }
     let numbers = line.numbers;
-    if line.is(b"area", 6, false) & records::is_area(line) {
+    if line.is(b"area", 7, false) & records::is_area(line) {
         let end = text::word(text, at, b"area");
         return After {
             state: records::with_area(state, numbers),

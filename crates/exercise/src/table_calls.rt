@@ -1,6 +1,7 @@
 // The lines about sections of tables.
 use crate::buffers;
 use crate::line::Line;
+use crate::line::Values;
 use crate::line::sixteen_bits;
 use crate::outcome;
 use tables::Head;
@@ -160,7 +161,7 @@ fn listed_fields(answer: PmtListed, text: &mut [u8], at: usize) -> usize {
 }
 
 // All entries of a PMT, written to the first places of four lists.
-fn streams(bytes: &[u8], n: [u64; 6], text: &mut [u8], at: usize) -> usize {
+fn streams(bytes: &[u8], n: Values, text: &mut [u8], at: usize) -> usize {
     let mut types = buffers::marked_bytes();
     let mut pids = buffers::marked();
     let mut starts = buffers::marked();

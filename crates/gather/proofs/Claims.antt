@@ -10,7 +10,7 @@ use Rattle.ground.specs.Refusal.{ExactCall}
 use Rattle.ground.proofs.Judged.{exact-call}
 use Rattle.ground.proofs.Outcome.{determined, determined-told}
 use Rattle.gather.specs.Rule.{leavesNone, rule}
-use Rattle.gather.specs.Memory.{soundMarks, stateOf, contradictsOf, Result, toldGathering, Leaves, leaves, resultOf, onMemory, gatherRefusals, gatherOf}
+use Rattle.gather.specs.Memory.{heldOf, soundMarks, stateOf, contradictsOf, Result, toldGathering, Leaves, leaves, resultOf, onMemory, gatherRefusals, gatherOf}
 use Rattle.gather.specs.Promises.{Gathers}
 use Rattle.gather.specs.Claims.{Claims}
 use Rattle.gather.specs.declared.Marks.{Marks}
@@ -21,9 +21,10 @@ use Rattle.gather.proofs.Walk.{walk-kind}
 use Rattle.gather.proofs.RuleKeeps.{rule-keeps, never-starts}
 use Rattle.gather.proofs.WholeSections.{rule-exact}
 use Rattle.gather.proofs.Spread.{gathers-whole}
+use Rattle.gather.proofs.OneRepeat.{one-repeat}
 use Rattle.gather.proofs.Cutting.{rule-cut}
 use Rattle.gather.proofs.Stored.{state-again}
-use Rattle.gather.proofs.Examples.{longest-is}
+use Rattle.gather.proofs.Examples.{longest-is, stuck-is}
 
 -- ---- nothing of an outcome of `gather` is left untold
 abbrev Whole : Type 0
@@ -63,6 +64,7 @@ pub claims : Claims
 claims =
     record {
       tellsSound = λ marks. determined (soundMarks marks);
+      tellsHeld = λ marks. determined (heldOf marks);
       tellsContradiction = λ held store base. determined (contradictsOf held store base);
       tellsNoneLeft = λ start payload. determined (leavesNone start payload);
       gathers = gathers;
@@ -73,7 +75,9 @@ claims =
       neverStarts = never-starts;
       exactly = rule-exact;
       spread = gathers-whole;
+      oneRepeat = one-repeat;
       cuts = rule-cut;
       again = state-again;
       longest = longest-is;
+      stuck = stuck-is;
     }

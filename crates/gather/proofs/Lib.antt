@@ -5,6 +5,7 @@ pub mod Sized
 pub mod OnMemory
 pub mod RuleOnMemory
 pub mod RuleKeeps
+pub mod OneRepeat
 pub mod Cutting
 pub mod WholeSections
 pub mod Spread

@@ -15,28 +15,29 @@ use Rattle.ground.proofs.Walk.{every-append}
 use Rattle.gather.specs.declared.kind.Kind.{Kind}
 use Rattle.gather.specs.declared.kind.Kind.the-variants.{Nothing, Part, Overlong, Whole}
 use Rattle.gather.specs.Kind.{classify, contradicting, join}
-use Rattle.gather.specs.Rule.{State, Packet, Yield, Outcome, nothing, first, add, walk, front, back, started, yield, repeats, jumps, kept, lost, changed, unchanged, rule}
+use Rattle.gather.specs.Rule.{Last, unseen, seen, marked, State, Packet, Yield, Outcome, nothing, first, add, walk, front, back, started, yield, repeats, jumps, kept, lost, unchanged, dropped, taken, rule}
+use Rattle.gather.specs.Memory.{soundMarks, counterOf, marksOf}
 use Rattle.gather.specs.Claims.{IsWhole, Keeps, Never}
 use Rattle.gather.proofs.Classes.{held-kind, held-fits, part-fits}
 use Rattle.gather.proofs.Walk.{walk-fine, walk-split, whole-count}
 use Rattle.gather.proofs.Adding.{add-none, add-kind, add-ind, add-fine, add-split}
 use Rattle.gather.proofs.OnMemory.{join-append, unfinished-le}
-use Rattle.gather.proofs.RuleOnMemory.{rule-empty, rule-repeat, rule-changed, yield-two}
+use Rattle.gather.proofs.RuleOnMemory.{number-again, low-byte, rule-empty, rule-repeat, rule-taken, yield-two}
 
 -- ---- the three ways of the rule
 module _ (s : State) (p : Packet) where
   pub rule-ind : (P : Outcome → Type 0)
-      → (length (p .payload) ≡ 0 → P (unchanged s false))
-      → ((length (p .payload) ≡ 0 → ⊥) → repeats (s .last) (p .counter) ≡ true → P (unchanged s true))
+      → (length (p .payload) ≡ 0 → P (unchanged s))
+      → ((length (p .payload) ≡ 0 → ⊥) → repeats (s .last) (p .counter) ≡ true → P (dropped s))
       → ((length (p .payload) ≡ 0 → ⊥) → repeats (s .last) (p .counter) ≡ false
-      → P (changed (jumps (s .last) (p .counter)) (p .counter) (lost (jumps (s .last) (p .counter)) (s .held))
+      → P (taken (jumps (s .last) (p .counter)) (p .counter) (lost (jumps (s .last) (p .counter)) (s .held))
       (yield (kept (jumps (s .last) (p .counter)) (s .held)) (p .start) (p .payload))))
       → P (rule s p)
   rule-ind P none again on = empty (eqb (length (p .payload)) 0) refl
     where
       repeated : (length (p .payload) ≡ 0 → ⊥) → (b : Bool) → repeats (s .last) (p .counter) ≡ b → P (rule s p)
       repeated e true r = rw (rule-repeat s p e r) (again e r)
-      repeated e false r = rw (rule-changed s p e r) (on e r)
+      repeated e false r = rw (rule-taken s p e r) (on e r)
 
       empty : (b : Bool) → eqb (length (p .payload)) 0 ≡ b → P (rule s p)
       empty true e = let z = eqb-true (length (p .payload)) 0 e in rw (rule-empty s p z) (none z)
@@ -136,15 +137,37 @@ lost-two true held start payload =
 lost-two false held start payload = let t = yield-two held start payload in omega arith
 
 -- ---- what the rule keeps
+-- a repeat leaves the counter, and sound marks sound
+marked-counter : (l : Last) → counterOf (marked l) ≡ counterOf l
+marked-counter unseen = refl
+marked-counter (seen l repeated) = refl
+
+marked-sound : (held : List ℕ) (l : Last) → soundMarks (marksOf (record { held = held; last = l })) ≡ true → soundMarks (marksOf (record { held = held; last = marked l })) ≡ true
+marked-sound held unseen h = h
+marked-sound held (seen l true) h = h
+marked-sound held (seen l false) h = h
+
 pub rule-keeps : (s : State) (p : Packet) → contradicting (s .held) ≡ false → Keeps s p (rule s p)
-rule-keeps s p h = rule-ind s p (Keeps s p) (λ z. same false) (λ e r. same true) on
+rule-keeps s p h = rule-ind s p (Keeps s p) (λ z. still (s .last) (λ k. k) (λ k. k) false) (λ e r. still (marked (s .last)) (λ k. rw (marked-counter (s .last)) k) (marked-sound (s .held) (s .last)) true) on
   where
-    same : (again : Bool) → Keeps s p (unchanged s again)
-    same again =
-        record { whole = tt; part = h; held = held-fits (s .held) h; two = omega arith; count = λ l. omega arith; within = omega arith; bytes = λ l. omega arith; counter = λ k l. k; sound = λ k l. k }
+    still : (l : Last) → (counterOf (s .last) ≤ 15 → counterOf l ≤ 15)
+        → (soundMarks (marksOf s) ≡ true → soundMarks (marksOf (record { held = s .held; last = l })) ≡ true) → (again : Bool)
+        → Keeps s p (record { next = record { held = s .held; last = l }; sections = []; jump = false; repeat = again; givenUp = 0 })
+    still l few sound again =
+        record {
+          whole = tt;
+          part = h;
+          held = held-fits (s .held) h;
+          two = omega arith;
+          count = λ l. omega arith;
+          within = omega arith;
+          bytes = λ l. omega arith;
+          counter = λ k l. few k;
+          sound = λ k l. sound k;
+        }
 
     on : (length (p .payload) ≡ 0 → ⊥) → repeats (s .last) (p .counter) ≡ false
-        → Keeps s p (changed (jumps (s .last) (p .counter)) (p .counter) (lost (jumps (s .last) (p .counter)) (s .held))
+        → Keeps s p (taken (jumps (s .last) (p .counter)) (p .counter) (lost (jumps (s .last) (p .counter)) (s .held))
         (yield (kept (jumps (s .last) (p .counter)) (s .held)) (p .start) (p .payload)))
     on e r =
         let b = jumps (s .last) (p .counter) in
@@ -161,7 +184,10 @@ rule-keeps s p h = rule-ind s p (Keeps s p) (λ z. same false) (λ e r. same tru
           within = let k = kept-short b (s .held) in let w = g .within in omega arith;
           bytes = g .bytes small;
           counter = λ k l. l;
-          sound = λ k l. rw (le-leb (length (yield (kept b (s .held)) (p .start) (p .payload) .held)) 4095 fits, le-leb (p .counter) 15 l);
+          sound =
+              λ k l.
+              let n = length (yield (kept b (s .held)) (p .start) (p .payload) .held) in
+              rw (low-byte n, number-again n, le-leb n 4095 fits, le-leb (p .counter) 15 l);
         }
 
 -- ---- unit start 0 never starts a section: nothing comes of nothing held, and after a finished section nothing is held
@@ -176,13 +202,10 @@ add-ends = add-ind (λ held new y. 0 < length (y .sections) → length (y .held)
     step held new (Whole n) h e l = refl
 
 pub never-starts : (s : State) (p : Packet) → p .start ≡ false → Never s (rule s p)
-never-starts s p u = rule-ind s p (Never s) (λ z. same false) (λ e r. same true) on
+never-starts s p u = rule-ind s p (Never s) (λ z. record { none = λ z. (refl, z); ends = λ l. absurd (not-suc-le-zero l) }) (λ e r. record { none = λ z. (refl, z); ends = λ l. absurd (not-suc-le-zero l) }) on
   where
-    same : (again : Bool) → Never s (unchanged s again)
-    same again = record { none = λ z. (refl, z); ends = λ l. absurd (not-suc-le-zero l) }
-
     on : (length (p .payload) ≡ 0 → ⊥) → repeats (s .last) (p .counter) ≡ false
-        → Never s (changed (jumps (s .last) (p .counter)) (p .counter) (lost (jumps (s .last) (p .counter)) (s .held))
+        → Never s (taken (jumps (s .last) (p .counter)) (p .counter) (lost (jumps (s .last) (p .counter)) (s .held))
         (yield (kept (jumps (s .last) (p .counter)) (s .held)) (p .start) (p .payload)))
     on e r =
         let held = kept (jumps (s .last) (p .counter)) (s .held) in

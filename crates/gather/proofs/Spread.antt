@@ -11,27 +11,31 @@ use borrow.Author.Tests.{eq-eqb, ne-eqb}
 use Rattle.ground.specs.Walk.{Every}
 use Rattle.gather.specs.declared.kind.Kind.the-variants.{Part, Whole}
 use Rattle.gather.specs.Kind.{classify, join}
-use Rattle.gather.specs.Rule.{seen, Packet, Yield, Outcome, add, started, ended, together, repeats, jumps, kept, lost, changed, rule}
+use Rattle.gather.specs.Rule.{seen, Packet, Yield, Outcome, add, started, ended, together, repeats, jumps, kept, lost, taken, rule}
 use Rattle.gather.specs.Run.{Ran, run, following}
 use Rattle.gather.proofs.Classes.{whole-again, part-of}
 use Rattle.gather.specs.Claims.{IsWhole, Some, Spread}
 use Rattle.gather.proofs.Walk.{walk-kind}
 use Rattle.gather.proofs.Adding.{add-kind}
-use Rattle.gather.proofs.RuleOnMemory.{rule-changed}
+use Rattle.gather.proofs.RuleOnMemory.{rule-taken}
 use Rattle.gather.proofs.RuleKeeps.{add-alone, kept-fine}
 
--- the next counter is no repeat and no jump
-next-new : (l : ℕ) → repeats (seen l) ((l + 1) % 16) ≡ false
-next-new l = ne-eqb ((l + 1) % 16) l (λ e. omega arith)
+-- the next counter is never the last one
+next-differs : (l : ℕ) → (l + 1) % 16 ≡ l → ⊥
+next-differs l e = omega arith
 
-next-step : (l : ℕ) → jumps (seen l) ((l + 1) % 16) ≡ false
-next-step l = rw (ne-eqb ((l + 1) % 16) l (λ e. omega arith), eq-eqb ((l + 1) % 16) ((l + 1) % 16) refl)
+-- so it is no repeat and no jump
+next-new : (l : ℕ) → repeats (seen l false) ((l + 1) % 16) ≡ false
+next-new l = rw (ne-eqb ((l + 1) % 16) l (next-differs l))
+
+next-step : (l : ℕ) → jumps (seen l false) ((l + 1) % 16) ≡ false
+next-step l = rw (ne-eqb ((l + 1) % 16) l (next-differs l), eq-eqb ((l + 1) % 16) ((l + 1) % 16) refl)
 
 -- a packet in step without unit start adds its payload
 pub rule-step : (held : List ℕ) (l : ℕ) (b : List ℕ) → Some b
-    → rule (record { held = held; last = seen l }) (record { counter = (l + 1) % 16; start = false; payload = b }) ≡ changed false ((l + 1) % 16) 0 (add held b)
+    → rule (record { held = held; last = seen l false }) (record { counter = (l + 1) % 16; start = false; payload = b }) ≡ taken false ((l + 1) % 16) 0 (add held b)
 rule-step held l b n =
-    rw (next-step l) at (rule-changed (record { held = held; last = seen l }) (record { counter = (l + 1) % 16; start = false; payload = b }) (λ z. omega arith) (next-new l))
+    rw (next-step l) at (rule-taken (record { held = held; last = seen l false }) (record { counter = (l + 1) % 16; start = false; payload = b }) (λ z. omega arith) (next-new l))
 
 -- the bytes of a whole section before its end are a part of it
 pub prefix-part : (a b : List ℕ) → IsWhole (a ++ b) → Some a → Some b → classify a ≡ Part
@@ -51,9 +55,9 @@ goOn o ps =
     record { next = r .next; sections = o .sections ++ r .sections; givenUp = o .givenUp + r .givenUp }
 
 run-step : (held : List ℕ) (l : ℕ) (b : List ℕ) (rest : List (List ℕ)) (y : Yield) → Some b → add held b ≡ y
-    → run (record { held = held; last = seen l }) (following l (b ∷ rest)) ≡ goOn (changed false ((l + 1) % 16) 0 y) (following ((l + 1) % 16) rest)
+    → run (record { held = held; last = seen l false }) (following l (b ∷ rest)) ≡ goOn (taken false ((l + 1) % 16) 0 y) (following ((l + 1) % 16) rest)
 run-step held l b rest y n e =
-    ap (λ (o : Outcome). goOn o (following ((l + 1) % 16) rest)) (rule-step held l b n ∙ ap (λ (z : Yield). changed false ((l + 1) % 16) 0 z) e)
+    ap (λ (o : Outcome). goOn o (following ((l + 1) % 16) rest)) (rule-step held l b n ∙ ap (λ (z : Yield). taken false ((l + 1) % 16) 0 z) e)
 
 -- a section gathered whole: it alone is finished, none is given up and nothing is held
 pub record Whole-of (s : List ℕ) (r : Ran) : Type 0 where
@@ -64,7 +68,7 @@ pub record Whole-of (s : List ℕ) (r : Ran) : Type 0 where
 -- the rest of a section comes in packets after some of it is held
 module _ (c tail : List ℕ) (end : Some c) where
   pub gathers : (bs : List (List ℕ)) (a : List ℕ) (l : ℕ) → Some a → Every Some bs → IsWhole (a ++ (join bs ++ c))
-      → Whole-of (a ++ (join bs ++ c)) (run (record { held = a; last = seen l }) (following l (bs ++ (c ++ tail) ∷ [])))
+      → Whole-of (a ++ (join bs ++ c)) (run (record { held = a; last = seen l false }) (following l (bs ++ (c ++ tail) ∷ [])))
   gathers [] a l p e w =
       let s = a ++ c in
       let again : classify (a ++ (c ++ tail)) ≡ Whole (length s) = rw (take-length s, append-assoc) at (whole-again s (length s) tail w) in
@@ -95,7 +99,7 @@ gathers-whole s counter a bs c tail h r p e end w =
     let b = jumps (s .last) counter in
     let held = kept b (s .held) in
     let rest = following counter (bs ++ (c ++ tail) ∷ []) in
-    ap (λ (o : Outcome). goOn o rest .sections) (rule-changed s (record { counter = counter; start = true; payload = 0 ∷ a }) (λ z. omega arith) r)
-    ∙ ap (λ (y : Yield). goOn (changed b counter (lost b (s .held)) y) rest .sections) (started-part held a (prefix-part a (join bs ++ c) w p more))
-    ∙ ap (λ (l : List (List ℕ)). (l ++ []) ++ run (record { held = a; last = seen counter }) rest .sections) (add-alone held (kept-fine b (s .held) h))
+    ap (λ (o : Outcome). goOn o rest .sections) (rule-taken s (record { counter = counter; start = true; payload = 0 ∷ a }) (λ z. omega arith) r)
+    ∙ ap (λ (y : Yield). goOn (taken b counter (lost b (s .held)) y) rest .sections) (started-part held a (prefix-part a (join bs ++ c) w p more))
+    ∙ ap (λ (l : List (List ℕ)). (l ++ []) ++ run (record { held = a; last = seen counter false }) rest .sections) (add-alone held (kept-fine b (s .held) h))
     ∙ gathers c tail end bs a counter p e w .sections

@@ -15,16 +15,16 @@ use Rattle.ground.specs.Answer.{refused}
 use Rattle.ground.specs.Walk.{Every}
 use Rattle.gather.specs.Kind.{join, cut}
 use Rattle.gather.specs.Rule.{Last, unseen, seen, State, Packet, rule}
-use Rattle.gather.specs.Memory.{soundMarks, lastOf, seenOf, counterOf, marksOf, stateOf, contradictsOf, gatherRefusals, gatherOf, onMemory, leaves}
+use Rattle.gather.specs.Memory.{heldOf, soundMarks, lastOf, marksOf, stateOf, contradictsOf, gatherRefusals, gatherOf, onMemory, leaves}
 use Rattle.gather.specs.Steps.{Room}
-use Rattle.gather.proofs.RuleOnMemory.{sound-says, marks-again}
+use Rattle.gather.proofs.RuleOnMemory.{sound-says, number-again, marks-again}
 use Rattle.gather.specs.Claims.{IsWhole}
 use Rattle.gather.proofs.RuleKeeps.{rule-keeps}
 use Rattle.gather.proofs.Cutting.{cut-join}
 
 -- where the sizes serve and the marks are sound, the answer is the rule's
 pub serves : (m : Marks) (counter : ℕ) (start : Bool) (payload store : List ℕ) (base : ℕ) (out : List ℕ)
-    → Room (m .held) payload store base out → soundMarks m ≡ true → counter ≤ 15
+    → Room (heldOf m) payload store base out → soundMarks m ≡ true → counter ≤ 15
     → gatherOf m counter start payload store base out
     ≡ onMemory (rule (stateOf m store base) (record { counter = counter; start = start; payload = payload })) store base out
 unfolding gatherOf
@@ -44,30 +44,32 @@ serves m counter start payload store base out r s few =
 
 -- the house's sizes serve: a store of 32,768 bytes, area i of 8, a payload of a packet and an output of at least 4,278 bytes
 pub house : (m : Marks) (payload store : List ℕ) (i : ℕ) (out : List ℕ) → soundMarks m ≡ true → length store ≡ 32768 → i < 8 → length payload ≤ 184 → 4278 ≤ length out
-    → Room (m .held) payload store (4096 * i) out
+    → Room (heldOf m) payload store (4096 * i) out
 house m payload store i out s l h p o = record { bound = sound-says m s .held; short = p; area = omega arith; output = o }
 
 -- a last counter is read back from its marks
-last-again : (l : Last) → lastOf (seenOf l) (counterOf l) ≡ l
-last-again unseen = refl
-last-again (seen l) = refl
+last-again : (held : List ℕ) (l : Last) → lastOf (marksOf (record { held = held; last = l })) ≡ l
+last-again held unseen = refl
+last-again held (seen l true) = refl
+last-again held (seen l false) = refl
 
 -- what the rule remembers is read back from its marks and from the store
 pub state-again : (n : State) (store : List ℕ) (base : ℕ) → base + length (n .held) ≤ length store
     → stateOf (marksOf n) (put store base (n .held)) base ≡ n
 state-again n store base h =
-    ap₂ (λ (held : List ℕ) (last : Last). record { held = held; last = last }) (written store base (n .held) h) (last-again (n .last))
+    rw (number-again (length (n .held)))
+    (ap₂ (λ (held : List ℕ) (last : Last). record { held = held; last = last }) (written store base (n .held) h) (last-again (n .held) (n .last)))
 
 -- after a call refusal 9 cannot follow, and the marks are sound
-module _ (m : Marks) (counter : ℕ) (start : Bool) (payload store : List ℕ) (base : ℕ) (out : List ℕ) (r : Room (m .held) payload store base out)
-    (s : soundMarks m ≡ true) (h : contradictsOf (m .held) store base ≡ false) where
+module _ (m : Marks) (counter : ℕ) (start : Bool) (payload store : List ℕ) (base : ℕ) (out : List ℕ) (r : Room (heldOf m) payload store base out)
+    (s : soundMarks m ≡ true) (h : contradictsOf (heldOf m) store base ≡ false) where
   pub never-contradicts :
       let n = rule (stateOf m store base) (record { counter = counter; start = start; payload = payload }) .next in
-      contradictsOf (marksOf n .held) (put store base (n .held)) base ≡ false
+      contradictsOf (heldOf (marksOf n)) (put store base (n .held)) base ≡ false
   never-contradicts =
       let p : Packet = record { counter = counter; start = start; payload = payload } in
       let k = rule-keeps (stateOf m store base) p h in
-      rw (written store base (rule (stateOf m store base) p .next .held) (omega (arith, k .held, r))) (k .part)
+      rw (number-again (length (rule (stateOf m store base) p .next .held)), written store base (rule (stateOf m store base) p .next .held) (omega (arith, k .held, r))) (k .part)
 
   pub stays-sound : counter ≤ 15 → soundMarks (marksOf (rule (stateOf m store base) (record { counter = counter; start = start; payload = payload }) .next)) ≡ true
   stays-sound c =

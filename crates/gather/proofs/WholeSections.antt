@@ -15,7 +15,7 @@ use Rattle.gather.specs.Rule.{Packet, Yield, Outcome, add, walk, started
 use Rattle.gather.proofs.Classes.{whole-again}
 use Rattle.gather.specs.Claims.{IsWhole, Exactly}
 use Rattle.gather.proofs.Walk.{walk-kind}
-use Rattle.gather.proofs.RuleOnMemory.{rule-changed}
+use Rattle.gather.proofs.RuleOnMemory.{rule-taken}
 use Rattle.gather.proofs.RuleKeeps.{add-alone, kept-fine}
 
 -- whole sections and then nothing: exactly those
@@ -41,7 +41,7 @@ pub rule-exact : Exactly
 rule-exact s counter ss t h r w e =
     let p : Packet = record { counter = counter; start = true; payload = 0 ∷ (join ss ++ t) } in
     let b = jumps (s .last) counter in
-    let on = rule-changed s p (λ z. omega arith) r in
+    let on = rule-taken s p (λ z. omega arith) r in
     let all = started-exact (kept b (s .held)) [] ss t w e in (
       ap (λ (o : Outcome). o .sections) on
           ∙ ap (λ (y : Yield). y .sections) all

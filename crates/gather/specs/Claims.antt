@@ -1,4 +1,5 @@
 -- What is claimed of the rule and of the public calls, and proved.
+pub mod OneRepeat
 use mathlib.Core.Path.{_≡_}
 use mathlib.Core.Bool.{Bool, true, false}
 use mathlib.Core.List.{List, [], _∷_, _++_}
@@ -14,8 +15,9 @@ use Rattle.gather.specs.Kind.{classify, contradicting, join, cut}
 use Rattle.gather.specs.Rule.{State, Packet, Outcome, nothing, _then_, walk, repeats, rule}
 use Rattle.gather.specs.Memory.{counterOf, soundMarks, marksOf, stateOf, gatherRefusals, Leaves, leaves, gatherOf}
 use Rattle.gather.specs.Run.{run, starting}
-use Rattle.gather.specs.Examples.{Longest}
-use Rattle.gather.specs.Promises.{TellsSound, TellsContradiction, TellsNoneLeft, Gathers}
+use Rattle.gather.specs.Claims.OneRepeat.{OneRepeatHolds}
+use Rattle.gather.specs.Examples.{Longest, Stuck}
+use Rattle.gather.specs.Promises.{TellsSound, TellsHeld, TellsContradiction, TellsNoneLeft, Gathers}
 use Rattle.gather.specs.declared.Marks.{Marks}
 use Rattle.gather.specs.declared.kind.Kind.the-variants.{Nothing, Whole}
 
@@ -71,6 +73,7 @@ Spread =
 pub record Claims : Type 0 where
   -- any two outcomes that a promise admits are equal
   pub tellsSound : (marks : Marks) → Determined (TellsSound marks)
+  pub tellsHeld : (marks : Marks) → Determined (TellsHeld marks)
   pub tellsContradiction : (held : ℕ) (store : List ℕ) (base : ℕ) → Determined (TellsContradiction held store base)
   pub tellsNoneLeft : (start : Bool) (payload : List ℕ) → Determined (TellsNoneLeft start payload)
   pub gathers : (marks : Marks) (counter : ℕ) (start : Bool) (payload store : List ℕ) (base : ℕ) (out : List ℕ)
@@ -88,8 +91,11 @@ pub record Claims : Type 0 where
   pub neverStarts : (s : State) (p : Packet) → p .start ≡ false → Never s (rule s p)
   pub exactly : Exactly
   pub spread : Spread
+  -- "One repeat, not many"
+  pub oneRepeat : OneRepeatHolds
   -- joined sections say where each of them is
   pub cuts : (s : State) (p : Packet) → contradicting (s .held) ≡ false → cut (join (rule s p .sections)) ≡ rule s p .sections
   -- "An unfinished one is held, from its area's first byte on": what the rule remembers is read back from the marks and the store
   pub again : (s : State) (store : List ℕ) (base : ℕ) → base + length (s .held) ≤ length store → stateOf (marksOf s) (put store base (s .held)) base ≡ s
   pub longest : Longest
+  pub stuck : Stuck

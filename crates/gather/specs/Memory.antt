@@ -1,7 +1,7 @@
 -- Document 01, "From payload to sections": the rule on memory, the held bytes in an area of the store, the finished sections joined at the start of the output.
 use mathlib.Core.Bool.{Bool, cond, not, _&&_}
 use mathlib.Core.List.{List, [], _∷_}
-use Prim.Native.Nat.{ℕ, _-_}
+use Prim.Native.Nat.{ℕ, _+_, _-_, _*_, _/_, _%_}
 use lib.Dec.{ltb, leb, eqb}
 use lib.ListN.{length, take, drop}
 use Rattle.ground.specs.House.{areaBytes, leastOutput, payloadBytes}
@@ -17,15 +17,22 @@ use Rattle.gather.specs.Rule.{Last, unseen, seen, State, Outcome, rule}
 
 -- the marks of an area that was just taken, and of a free one
 abbrev pub noMarks : Marks
-noMarks = record { held = 0; seen = 0; counter = 0 }
+noMarks = record { «held_low» = 0; «held_high» = 0; seen = 0; counter = 0; repeated = 0 }
 
--- "held bytes are 0 to 4,095; an area that has seen no counter holds 0 bytes and counter 0, any other used area a counter of 0 to 15" ("Filters and areas"); that a counter was seen is marked by 0 or 1
+-- how many bytes are held: the marks have the number's two bytes
+abbrev pub heldOf : Marks → ℕ
+heldOf m = m .«held_low» + 256 * m .«held_high»
+
+-- "held bytes are 0 to 4,095; an area that has seen no counter holds 0 bytes and counter 0" and has seen no repeat, "any other used area a counter of 0 to 15" ("Filters and areas"); that a counter was seen, and that its repeat was, is marked by 0 or 1; the low byte of what is held is one
 abbrev pub soundMarks : Marks → Bool
-soundMarks m = cond (eqb (m .seen) 0) (eqb (m .held) 0 && eqb (m .counter) 0) (eqb (m .seen) 1 && leb (m .held) 4095 && leb (m .counter) 15)
+soundMarks m =
+    leb (m .«held_low») 255
+    && cond (eqb (m .seen) 0) (eqb (heldOf m) 0 && eqb (m .counter) 0 && eqb (m .repeated) 0)
+    (eqb (m .seen) 1 && leb (heldOf m) 4095 && leb (m .counter) 15 && leb (m .repeated) 1)
 
--- the last counter that the marks say, or none yet
-abbrev pub lastOf : ℕ → ℕ → Last
-lastOf mark counter = cond (eqb mark 0) unseen (seen counter)
+-- the last counter that the marks say, and whether its repeat was seen, or none yet
+abbrev pub lastOf : Marks → Last
+lastOf m = cond (eqb (m .seen) 0) unseen (seen (m .counter) (not (eqb (m .repeated) 0)))
 
 -- the n bytes of s from `at` on; bytes past the end are none
 abbrev pub stretch : ℕ → List ℕ → ℕ → List ℕ
@@ -33,21 +40,30 @@ stretch n s at = take n (drop at s)
 
 -- what an area remembers, of its marks and the bytes of the store from its base on
 abbrev pub stateOf : Marks → List ℕ → ℕ → State
-stateOf m store base = record { held = stretch (m .held) store base; last = lastOf (m .seen) (m .counter) }
+stateOf m store base = record { held = stretch (heldOf m) store base; last = lastOf m }
 
 -- the mark of whether a counter was seen
 abbrev pub seenOf : Last → ℕ
 seenOf unseen = 0
-seenOf (seen l) = 1
+seenOf (seen l repeated) = 1
 
 -- the last counter, 0 where there is none
 abbrev pub counterOf : Last → ℕ
 counterOf unseen = 0
-counterOf (seen l) = l
+counterOf (seen l repeated) = l
+
+-- the mark of whether its repeat was seen
+abbrev pub repeatedOf : Last → ℕ
+repeatedOf unseen = 0
+repeatedOf (seen l repeated) = cond repeated 1 0
+
+-- marks by what they say
+abbrev pub marksAs : ℕ → ℕ → ℕ → ℕ → Marks
+marksAs held mark counter repeated = record { «held_low» = held % 256; «held_high» = held / 256; seen = mark; counter = counter; repeated = repeated }
 
 -- the marks of what an area remembers
 abbrev pub marksOf : State → Marks
-marksOf s = record { held = length (s .held); seen = seenOf (s .last); counter = counterOf (s .last) }
+marksOf s = marksAs (length (s .held)) (seenOf (s .last)) (counterOf (s .last)) (repeatedOf (s .last))
 
 -- what gathering says in document 01's terms: the area's marks after the packet, and of the packet call's answer all but the set
 pub record Result : Type 0 where

@@ -4,13 +4,17 @@ use mathlib.Core.Bool.{Bool}
 use mathlib.Core.List.{List}
 use Prim.Native.Nat.{ℕ}
 use Rattle.gather.specs.Rule.{leavesNone}
-use Rattle.gather.specs.Memory.{soundMarks, contradictsOf, toldGathering, leaves, gatherOf}
+use Rattle.gather.specs.Memory.{heldOf, soundMarks, contradictsOf, toldGathering, leaves, gatherOf}
 use Rattle.gather.specs.declared.Marks.{Marks}
 use Rattle.gather.specs.declared.Gathering.{Gathering}
 
 -- `sound`
 abbrev pub TellsSound : Marks → Bool → Type 0
 TellsSound marks r = r ≡ soundMarks marks
+
+-- `held_of`
+abbrev pub TellsHeld : Marks → ℕ → Type 0
+TellsHeld marks r = r ≡ heldOf marks
 
 -- `contradicts`
 abbrev pub TellsContradiction : ℕ → List ℕ → ℕ → Bool → Type 0

@@ -1,5 +1,5 @@
--- Document 01, "From payload to sections": the rule alone, over an area's held bytes and last counter.
-use mathlib.Core.Bool.{Bool, true, false, cond, not, _&&_}
+-- Document 01, "From payload to sections", with request 3 of document 02, "One repeat, not many": the rule alone, over an area's held bytes, its last counter, and whether that one's repeat was seen.
+use mathlib.Core.Bool.{Bool, true, false, cond, not, _&&_, _||_}
 use mathlib.Core.List.{List, [], _∷_, _++_}
 use Prim.Native.Nat.{ℕ, _+_, _%_}
 use lib.Dec.{eqb, leb}
@@ -9,12 +9,12 @@ use Rattle.gather.specs.declared.kind.Kind.{Kind}
 use Rattle.gather.specs.declared.kind.Kind.the-variants.{Nothing, Part, Overlong, Whole}
 use Rattle.gather.specs.Kind.{classify, isEmpty}
 
--- the area's last counter, or none yet
+-- the area's last counter and "whether it has seen the repeat", or no counter yet
 pub data Last : Type 0 where
   unseen : Last
-  seen : ℕ → Last
+  seen : ℕ → Bool → Last
 
--- what an area remembers: its held bytes and its last counter
+-- what an area remembers: its held bytes, its last counter and whether that one's repeat was seen
 pub record State : Type 0 where
   pub held : List ℕ
   pub last : Last
@@ -103,19 +103,41 @@ started held payload = together (ended (add held (front payload))) (walk (back p
 abbrev pub yield : List ℕ → Bool → List ℕ → Yield
 yield held start payload = cond start (started held payload) (add held payload)
 
--- "the same counter as the area's last is a repeat"
+-- "the same counter as the area's last"
+abbrev pub isSame : Last → ℕ → Bool
+isSame unseen counter = false
+isSame (seen l repeated) counter = eqb counter l
+
+-- "a counter that is neither the same nor the next modulo 16"; "the first counter of a fresh area is never a jump"
+abbrev pub skips : Last → ℕ → Bool
+skips unseen counter = false
+skips (seen l repeated) counter = not (eqb counter l) && not (eqb counter ((l + 1) % 16))
+
+-- a repeat was seen since the area's last original
+abbrev pub isRepeated : Last → Bool
+isRepeated unseen = false
+isRepeated (seen l repeated) = repeated
+
+-- "only the first such packet after an original is a repeat"
 abbrev pub repeats : Last → ℕ → Bool
-repeats unseen counter = false
-repeats (seen l) counter = eqb counter l
+repeats l counter = isSame l counter && not (isRepeated l)
 
--- "a counter that is neither the same nor the next modulo 16 is a jump"; "the first counter of a fresh area is never a jump"
+-- "the next is a jump", and so is a counter that skips
 abbrev pub jumps : Last → ℕ → Bool
-jumps unseen counter = false
-jumps (seen l) counter = not (eqb counter l) && not (eqb counter ((l + 1) % 16))
+jumps l counter = (isSame l counter && isRepeated l) || skips l counter
 
--- "A packet without payload changes nothing and gets no mark"; a repeat "is dropped, reported as such"
-abbrev pub unchanged : State → Bool → Outcome
-unchanged s again = record { next = s; sections = []; jump = false; repeat = again; givenUp = 0 }
+-- "A packet without payload changes nothing and gets no mark"
+abbrev pub unchanged : State → Outcome
+unchanged s = record { next = s; sections = []; jump = false; repeat = false; givenUp = 0 }
+
+-- "The area remembers whether it has seen the repeat"
+abbrev pub marked : Last → Last
+marked unseen = unseen
+marked (seen l repeated) = seen l true
+
+-- a repeat "is dropped, reported as such", and changes no more than that mark
+abbrev pub dropped : State → Outcome
+dropped s = record { next = record { held = s .held; last = marked (s .last) }; sections = []; jump = false; repeat = true; givenUp = 0 }
 
 -- after a jump "held bytes are given up"
 abbrev pub kept : Bool → List ℕ → List ℕ
@@ -125,17 +147,17 @@ kept jump held = cond jump [] held
 abbrev pub lost : Bool → List ℕ → ℕ
 lost jump held = cond jump (unfinished held) 0
 
--- "Every packet not dropped sets the last counter"
-abbrev pub changed : Bool → ℕ → ℕ → Yield → Outcome
-changed jump counter lost y =
-    record { next = record { held = y .held; last = seen counter }; sections = y .sections; jump = jump; repeat = false; givenUp = lost + y .givenUp }
+-- "Every packet not dropped sets the last counter", and its repeat was not seen yet: it "counts as an original"
+abbrev pub taken : Bool → ℕ → ℕ → Yield → Outcome
+taken jump counter lost y =
+    record { next = record { held = y .held; last = seen counter false }; sections = y .sections; jump = jump; repeat = false; givenUp = lost + y .givenUp }
 
 -- the rule
 unfoldable pub rule : State → Packet → Outcome
 rule s p =
-    cond (isEmpty (p .payload)) (unchanged s false)
-    (cond (repeats (s .last) (p .counter)) (unchanged s true)
-    (changed (jumps (s .last) (p .counter)) (p .counter) (lost (jumps (s .last) (p .counter)) (s .held))
+    cond (isEmpty (p .payload)) (unchanged s)
+    (cond (repeats (s .last) (p .counter)) (dropped s)
+    (taken (jumps (s .last) (p .counter)) (p .counter) (lost (jumps (s .last) (p .counter)) (s .held))
     (yield (kept (jumps (s .last) (p .counter)) (s .held)) (p .start) (p .payload))))
 
 -- refusal 11: a payload with unit start whose pointer p leaves no byte for a section, p + 1 not below the payload's size

@@ -2,7 +2,7 @@
 use mathlib.Core.Bool.{true, false}
 use mathlib.Core.List.{List, [], _∷_, _++_}
 use Prim.Native.Nat.{ℕ, _+_, _%_}
-use Rattle.gather.specs.Rule.{State, Packet, rule}
+use Rattle.gather.specs.Rule.{State, Packet, Outcome, rule}
 
 -- the state after some packets, the sections that they finished, in order, and how many were given up
 pub record Ran : Type 0 where
@@ -17,6 +17,11 @@ run s (p ∷ ps) =
     let o = rule s p in
     let r = run (o .next) ps in
     record { next = r .next; sections = o .sections ++ r .sections; givenUp = o .givenUp + r .givenUp }
+
+-- the outcomes of packets taken one after the other, by some rule
+abbrev pub outcomes : (State → Packet → Outcome) → State → List Packet → List Outcome
+outcomes gather s [] = []
+outcomes gather s (p ∷ ps) = gather s p ∷ outcomes gather (gather s p .next) ps
 
 -- packets without unit start, in step after a last counter: each with its payload
 abbrev pub following : ℕ → List (List ℕ) → List Packet

@@ -8,7 +8,7 @@ use Rattle.ground.specs.House.{areaBytes, leastOutput}
 use Rattle.ground.specs.Answer.{given}
 use Rattle.ground.specs.Write.{put}
 use Rattle.gather.specs.Rule.{blank, seen, rule, leavesNone}
-use Rattle.gather.specs.Memory.{noMarks, leaves, gatherOf}
+use Rattle.gather.specs.Memory.{noMarks, marksAs, leaves, gatherOf}
 
 -- one case for each ★ line, and one for its bytes in memory
 pub data Case : Type 0 where
@@ -28,14 +28,14 @@ Right pointer-182 =
     (counter : ℕ) (bytes : List ℕ) → length bytes ≡ 182
     → (leavesNone true (182 ∷ (bytes ++ 0x80 ∷ [])) ≡ false)
     × (rule blank (record { counter = counter; start = true; payload = 182 ∷ (bytes ++ 0x80 ∷ []) })
-    ≡ record { next = record { held = 0x80 ∷ []; last = seen counter }; sections = []; jump = false; repeat = false; givenUp = 0 })
+    ≡ record { next = record { held = 0x80 ∷ []; last = seen counter false }; sections = []; jump = false; repeat = false; givenUp = 0 })
 -- the same on memory: one byte of the store is written, the area's first, and none of the output
 Right pointer-182-stored =
     (counter : ℕ) (bytes store : List ℕ) (base : ℕ) (out : List ℕ) → counter ≤ 15 → length bytes ≡ 182 → base + areaBytes ≤ length store → leastOutput ≤ length out
     → gatherOf noMarks counter true (182 ∷ (bytes ++ 0x80 ∷ [])) store base out
     ≡ leaves
     (given (record {
-      marks = record { held = 1; seen = 1; counter = counter };
+      marks = marksAs 1 1 counter 0;
       sections = 0;
       bytes = 0;
       jump = false;

@@ -13,6 +13,7 @@ use Rattle.gather.specs.declared.kind.Kind.{Kind}
 use Rattle.gather.specs.declared.kind.Kind.the-variants.{Nothing, Part, Overlong, Whole}
 use Rattle.gather.specs.Kind.{join}
 use Rattle.gather.specs.Rule.{Yield}
+use Rattle.gather.specs.Memory.{marksAs}
 
 -- the bytes may be held: they are a part of a section
 abbrev pub isPart : Kind → Bool
@@ -54,11 +55,15 @@ pub record Room (held : ℕ) (payload store : List ℕ) (base : ℕ) (out : List
   pub area : base + areaBytes ≤ length store
   pub output : leastOutput ≤ length out
 
--- the numbers of a packet that changes nothing
-abbrev pub unchangedOf : Marks → Bool → Gathered
-unchangedOf marks again = record { marks = marks; sections = 0; bytes = 0; jump = false; repeat = again; «given_up» = 0 }
+-- the marks after a packet that is taken, and holds so many bytes
+abbrev pub originalOf : ℕ → ℕ → Marks
+originalOf held counter = marksAs held 1 counter 0
+
+-- the numbers of a packet that is not gathered, one without payload or a repeat
+abbrev pub ungatheredOf : Marks → ℕ → Bool → Gathered
+ungatheredOf m repeated again =
+    record { marks = record { «held_low» = m .«held_low»; «held_high» = m .«held_high»; seen = m .seen; counter = m .counter; repeated = repeated }; sections = 0; bytes = 0; jump = false; repeat = again; «given_up» = 0 }
 
 -- the numbers of a packet that is taken
-abbrev pub changedOf : Bool → ℕ → ℕ → Sizes → Gathered
-changedOf jump counter givenUp z =
-    record { marks = record { held = z .held; seen = 1; counter = counter }; sections = z .sections; bytes = z .bytes; jump = jump; repeat = false; «given_up» = givenUp }
+abbrev pub takenOf : Marks → Bool → ℕ → Sizes → Gathered
+takenOf marks jump givenUp z = record { marks = marks; sections = z .sections; bytes = z .bytes; jump = jump; repeat = false; «given_up» = givenUp }

@@ -13,10 +13,10 @@ ghost use mathlib.Core.Path.{_≡_};
 ghost use mathlib.Core.Bool.{true, cond};
 ghost use Prim.Native.Nat.{_≤_};
 ghost use Rattle.ground.specs.Answer.{given};
-ghost use Rattle.gather.specs.Rule.{repeats, jumps, rule};
-ghost use Rattle.gather.specs.Memory.{soundMarks, lastOf, stateOf, toldGathered, leaves, onMemory};
-ghost use Rattle.gather.specs.Promises.{TellsSound, TellsContradiction, TellsNoneLeft, Gathers};
-ghost use Rattle.gather.specs.Steps.{unfinishedOf, unchangedOf, changedOf, Room};
+ghost use Rattle.gather.specs.Rule.{isSame, skips, rule};
+ghost use Rattle.gather.specs.Memory.{heldOf, soundMarks, lastOf, stateOf, toldGathered, leaves, onMemory};
+ghost use Rattle.gather.specs.Promises.{TellsSound, TellsHeld, TellsContradiction, TellsNoneLeft, Gathers};
+ghost use Rattle.gather.specs.Steps.{unfinishedOf, ungatheredOf, takenOf, Room};
 
 // "Areas: 8, each 4,096 bytes".
 pub const AREA_BYTES: usize = 4096;
@@ -27,11 +27,13 @@ pub const LEAST_OUTPUT: usize = 4278;
 // A packet's payload has "184 bytes" at most.
 pub const PAYLOAD_BYTES: usize = 184;
 
-// What the rule reads of an area besides the held bytes: how many there are, whether a counter was seen (0 or 1), and the last one.
+// What the rule reads of an area besides the held bytes: how many there are, whether a counter was seen (0 or 1), the last one, and whether its repeat was seen (0 or 1). How many bytes are held is told by two bytes, so that an area's record has eight and none between them that says nothing: the compiler copies it as one.
 pub struct Marks {
-    pub held: u16,
+    pub held_low: u8,
+    pub held_high: u8,
     pub seen: u8,
     pub counter: u8,
+    pub repeated: u8,
 }
 
 // What a packet did: the area's marks after it, the finished sections and their bytes, jump, repeat, and how many sections were given up.
@@ -54,9 +56,19 @@ pub fn sound(marks: Marks) -> bool
     ensures { λ r. ⌜ TellsSound marks r ⌝ }
 {
     if marks.seen == 0 {
-        return (marks.held == 0) & (marks.counter == 0);
+        return (marks.held_low == 0)
+            & (marks.held_high == 0)
+            & (marks.counter == 0)
+            & (marks.repeated == 0);
     }
-    (marks.seen == 1) & (marks.held <= 4095) & (marks.counter <= 15)
+    (marks.seen == 1) & (marks.held_high <= 15) & (marks.counter <= 15) & (marks.repeated <= 1)
+}
+
+// How many bytes are held.
+pub fn held_of(marks: Marks) -> usize
+    ensures { λ r. ⌜ TellsHeld marks r ⌝ }
+{
+    marks.held_low as usize + 256 * marks.held_high as usize
 }
 
 // Refusal 9: whether the held bytes are no part of a section; bytes past the store's end are none.
@@ -79,22 +91,24 @@ pub fn leaves_none(start: bool, payload: &[u8]) -> bool
     start & (payload.len() <= payload[0] as usize + 1)
 }
 
-fn repeats(marks: Marks, counter: u8) -> bool
-    ensures { λ r. ⌜ r ≡ repeats (lastOf (marks .seen) (marks .counter)) counter ⌝ }
+// Whether the counter is the area's last.
+fn is_same(marks: Marks, counter: u8) -> bool
+    ensures { λ r. ⌜ r ≡ isSame (lastOf marks) counter ⌝ }
 {
     (marks.seen != 0) & (counter == marks.counter)
 }
 
-fn jumps(marks: Marks, counter: u8) -> bool
+// Whether the counter is neither the area's last nor the next.
+fn skips(marks: Marks, counter: u8) -> bool
     requires { ⌜ soundMarks marks ≡ true ⌝ }
-    ensures { λ r. ⌜ r ≡ jumps (lastOf (marks .seen) (marks .counter)) counter ⌝ }
+    ensures { λ r. ⌜ r ≡ skips (lastOf marks) counter ⌝ }
 {
     (marks.seen != 0) & ((counter != marks.counter) & (counter != (marks.counter + 1) % 16))
 }
 
-// After a jump nothing is held.
+// After a jump nothing is held, and else what was.
 fn kept(jump: bool, held: usize) -> usize
-    ensures { λ r. ⌜ r ≡ cond jump 0 held ⌝ }
+    ensures { λ r. ⌜ (r ≡ cond jump 0 held) × (r ≤ held) ⌝ }
 {
     if jump {
         return 0;
@@ -112,12 +126,18 @@ fn lost(jump: bool, held: usize) -> u8
     0
 }
 
-// A packet without payload or a repeat.
-fn unchanged(marks: Marks, repeat: bool) -> Gathered
-    ensures { λ r. ⌜ r ≡ unchangedOf marks repeat ⌝ }
+// A packet that is not gathered, without payload or a repeat: no more than the mark of the repeat may change.
+fn ungathered(marks: Marks, repeated: u8, repeat: bool) -> Gathered
+    ensures { λ r. ⌜ r ≡ ungatheredOf marks repeated repeat ⌝ }
 {
     Gathered {
-        marks,
+        marks: Marks {
+            held_low: marks.held_low,
+            held_high: marks.held_high,
+            seen: marks.seen,
+            counter: marks.counter,
+            repeated,
+        },
         sections: 0,
         bytes: 0,
         jump: false,
@@ -126,17 +146,12 @@ fn unchanged(marks: Marks, repeat: bool) -> Gathered
     }
 }
 
-// A packet that is not dropped sets the last counter.
-fn changed(jump: bool, counter: u8, given_up: u8, sizes: Sizes) -> Gathered
-    requires { ⌜ sizes .held ≤ 4095 ⌝ }
-    ensures { λ r. ⌜ r ≡ changedOf jump counter «given_up» sizes ⌝ }
+// A packet that is taken, and the area's marks after it.
+fn taken(marks: Marks, jump: bool, given_up: u8, sizes: Sizes) -> Gathered
+    ensures { λ r. ⌜ r ≡ takenOf marks jump «given_up» sizes ⌝ }
 {
     Gathered {
-        marks: Marks {
-            held: sizes.held as u16,
-            seen: 1,
-            counter,
-        },
+        marks,
         sections: sizes.sections,
         bytes: sizes.bytes,
         jump,
@@ -155,25 +170,37 @@ fn accepted(
     base: usize,
     out: &mut [u8],
 ) -> Gathered
-    requires { ⌜ Room (marks .held) (now payload) (now store) base (now out) ⌝ }
+    requires { ⌜ Room (heldOf marks) (now payload) (now store) base (now out) ⌝ }
     requires { ⌜ soundMarks marks ≡ true ⌝ }
     ensures { λ r. ⌜ leaves (given (toldGathered r)) (now (store .exit)) (now (out .exit))
         ≡ onMemory (rule (stateOf marks (now (store .entry)) base) (record { counter = counter; start = start; payload = now (payload .entry) }))
         (now (store .entry)) base (now (out .entry)) ⌝ }
 {
-    let is_repeat = repeats(marks, counter);
+    let same = is_same(marks, counter);
     if payload.len() == 0 {
-        return unchanged(marks, false);
+        return ungathered(marks, marks.repeated, false);
     }
-    if is_repeat {
-        return unchanged(marks, true);
+    if same & (marks.repeated == 0) {
+        return ungathered(marks, 1, true);
     }
-    let jump = jumps(marks, counter);
-    let held = marks.held as usize;
+    let skip = skips(marks, counter);
+    // the same counter once more, after its repeat, is a jump as well
+    let jump = same | skip;
+    let held = held_of(marks);
     let lost = lost(jump, held);
     let sizes = gathered(start, kept(jump, held), payload, store, base, out);
     let given_up = lost + sizes.given_up;
-    changed(jump, counter, given_up, sizes)
+    let held_low = (sizes.held % 256) as u8;
+    let held_high = (sizes.held / 256) as u8;
+    // an original: its counter is the last one now, and no repeat of it was seen
+    let next = Marks {
+        held_low,
+        held_high,
+        seen: 1,
+        counter,
+        repeated: 0,
+    };
+    taken(next, jump, given_up, sizes)
 }
 
 // A packet's counter, unit start and payload, gathered into the area at `base` of the store and to the output.

@@ -3,13 +3,13 @@
 use mathlib.Core.Path.{_≡_, refl, sym, _∙_, ap, ap₂}
 use mathlib.Core.Bool.{Bool, true, false, cond, not, _&&_, false≢true}
 use mathlib.Core.List.{List, [], _∷_, _++_, map}
-use Prim.Native.Nat.{ℕ, zero, suc, _+_, _≤_, _<_, zero-le, suc-le-suc}
+use Prim.Native.Nat.{ℕ, zero, suc, _+_, _-_, _≤_, _<_, zero-le, suc-le-suc}
 use native.Mathlib.Nat.{not-suc-le-zero, le-of-suc-le-suc, zero-add, add-zero, add-assoc}
 use native.Mathlib.Numerals.{add-one}
 use native.Mathlib.Omega.{arith}
-use lib.ListN.{length, getD, take, drop, set, length-set, length-map, drop-of-length-le}
-use lib.Seq.{drop-cons, getD-set-same, getD-set-other}
-use native.Mathlib.Decide.{ℕ-discrete, decLe}
+use lib.ListN.{length, getD, take, drop, set, length-set, length-map, length-drop, drop-of-length-le}
+use lib.Seq.{drop-cons, getD-drop, getD-set-same, getD-set-other}
+use native.Mathlib.Decide.{ℕ-discrete, decLe, decLt}
 use Rattle.ground.specs.Walk.{find, total, count, keep, all, apart, Every}
 use Rattle.ground.proofs.Test.{both-true}
 use borrow.Author.Tests.{not-true, le-leb, lt-leb}
@@ -139,6 +139,13 @@ module _ {ℓ} {A : Type ℓ} where
   all-of p (x ∷ xs) d each =
       rw (each 0 (suc-le-suc zero-le)) (all-of p xs d (λ i h. each (suc i) (suc-le-suc h)))
 
+  -- all that pass a test pass a weaker one
+  pub all-weaker : (p q : A → Bool) (l : List A) → ((x : A) → q x ≡ true → p x ≡ true) → all q l ≡ true → all p l ≡ true
+  all-weaker p q [] weaker e = refl
+  all-weaker p q (x ∷ xs) weaker e =
+      let both = both-true (q x) (all q xs) e in
+      rw (weaker x (both .0), all-weaker p q xs weaker (both .1))
+
   -- a loop that tests every element, where the answer r hangs on what is left to test: it stops, goes on, ends
   module _ (p : A → Bool) (l : List A) (i : ℕ) (r : Bool) (left : r ≡ all p (drop i l)) where
     pub all-stops : (d : A) → i < length l → p (getD l i d) ≡ false → r ≡ false
@@ -147,9 +154,6 @@ module _ {ℓ} {A : Type ℓ} where
     pub all-goes : (d : A) → i < length l → p (getD l i d) ≡ true → r ≡ all p (drop (i + 1) l)
     all-goes d h e =
         left ∙ all-turn p l i d h ∙ ap (λ (b : Bool). b && all p (drop (suc i) l)) e ∙ ap (λ (n : ℕ). all p (drop n l)) (sym (add-one i))
-
-    pub all-ends : length l ≤ i → r ≡ true
-    all-ends h = left ∙ ap (all p) (drop-of-length-le l h)
 
   -- a store of what passes keeps all passing
   pub all-set : (p : A → Bool) (l : List A) (i : ℕ) (x d : A) → all p l ≡ true → p x ≡ true → all p (set l i x) ≡ true
@@ -211,6 +215,19 @@ module _ {ℓ} {A : Type ℓ} (clash : A → A → Bool) where
         all-of (λ y. not (clash x y)) xs d (λ j h. ap not (each 0 (suc j) (suc-le-suc zero-le) (suc-le-suc h))),
         apart-of xs d (λ i j h b. each (suc i) (suc j) (suc-le-suc h) (suc-le-suc b)),
       )
+
+  -- those before an index are apart, and none from it on clashes with one before it
+  pub apart-front : (l : List A) (d : A) (i : ℕ) (idle : A → Bool) → ((j k : ℕ) → j < k → k < i → clash (getD l j d) (getD l k d) ≡ false)
+      → ((x y : A) → idle y ≡ true → clash x y ≡ false) → all idle (drop i l) ≡ true → apart clash l ≡ true
+  apart-front l d i idle before none rest = apart-of l d (λ j k h b. go j k h b (decLt k i))
+    where
+      go : (j k : ℕ) → j < k → k < length l → Dec (k < i) → clash (getD l j d) (getD l k d) ≡ false
+      go j k h b (yes q) = before j k h q
+      go j k h b (no n) =
+          let back : i + (k - i) ≡ k = omega arith in
+          let inside : k - i < length (drop i l) = simp length-drop (omega arith) in
+          let there = getD-drop i l (k - i) d ∙ ap (λ (m : ℕ). getD l m d) back in
+          none (getD l j d) (getD l k d) (ap idle (sym there) ∙ all-at idle (drop i l) d rest (k - i) inside)
 
   -- a store of what clashes with no other keeps all apart
   pub apart-set : (l : List A) (i : ℕ) (x d : A) → apart clash l ≡ true

@@ -1,6 +1,6 @@
 -- The packet call's order: each test that applies decides, and between the first ones and the last three the packet's area does.
 -- Assumes nothing.
-use mathlib.Core.Path.{_≡_}
+use mathlib.Core.Path.{_≡_, sym, _∙_, ap}
 use mathlib.Core.Bool.{Bool, true, false, not}
 use mathlib.Core.List.{List}
 use Prim.Native.Nat.{ℕ, _≤_, _<_}
@@ -15,7 +15,7 @@ use Rattle.ground.proofs.Test.{neither}
 use Rattle.packet.specs.Packet.{contents, readPacket, packetRefusals}
 use Rattle.packet.specs.Payload.{payloadOf}
 use Rattle.gather.specs.Rule.{leavesNone}
-use Rattle.gather.specs.Memory.{contradictsOf}
+use Rattle.gather.specs.Memory.{heldOf, contradictsOf}
 use Rattle.state.specs.State.{areaOf, areaStart, freeArea}
 use Rattle.state.specs.declared.State.{State}
 use Rattle.sound.specs.Sound.{sound}
@@ -52,10 +52,13 @@ module _ (s : State) (i : ℕ) (p store out : List ℕ) where
 -- the last three tests of a wanted packet
 module _ (s : State) (i : ℕ) (p store out : List ℕ) where
   abbrev contradicts : Bool
-  contradicts = contradictsOf (getD (s .areas) i freeArea .marks .held) store (areaStart i)
+  contradicts = contradictsOf (heldOf (getD (s .areas) i freeArea .marks)) store (areaStart i)
 
   abbrev scrambling : ℕ
   scrambling = contents p .scrambling
+
+  pub contradicts-told : {n : ℕ} {r : Bool} → n ≡ heldOf (getD (s .areas) i freeArea .marks) → r ≡ contradictsOf n store (areaStart i) → contradicts ≡ r
+  contradicts-told h e = ap (λ (n : ℕ). contradictsOf n store (areaStart i)) (sym h) ∙ sym e
 
   pub tests-contradict : contradicts ≡ true → afterTests s i p store out ≡ asGiven s store out (refused 9)
   tests-contradict e = rw e

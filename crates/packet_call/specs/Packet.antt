@@ -12,7 +12,7 @@ use Rattle.packet.specs.Packet.{packetRefusals, contents}
 use Rattle.packet.specs.Payload.{payloadOf}
 use Rattle.gather.specs.Rule.{Packet, Outcome, rule, leavesNone}
 use Rattle.gather.specs.Kind.{join}
-use Rattle.gather.specs.Memory.{stateOf, marksOf, contradictsOf}
+use Rattle.gather.specs.Memory.{heldOf, stateOf, marksOf, contradictsOf}
 use Rattle.state.specs.State.{areaOf, areaStart, freeArea, placesOn}
 use Rattle.state.specs.declared.Area.{Area}
 use Rattle.state.specs.declared.State.{State}
@@ -75,7 +75,7 @@ firstRefusals s p store out = (1 when not (sound s)) ∷ (3 when isWrongSize sto
 -- "then 9, 10, 11", for the PID's area i
 abbrev pub lastRefusals : State → ℕ → List ℕ → List ℕ → List Row
 lastRefusals s i p store =
-    (9 when contradictsOf (getD (s .areas) i freeArea .marks .held) store (areaStart i))
+    (9 when contradictsOf (heldOf (getD (s .areas) i freeArea .marks)) store (areaStart i))
     ∷ (10 when not (eqb (contents p .scrambling) 0))
     ∷ (11 when leavesNone (contents p .unitStart) (payloadOf p))
     ∷ []

@@ -150,7 +150,7 @@ fn wanted(
     let areas = state.areas;
     let area = areas[i];
     let marks = area.marks;
-    if gather::contradicts(marks.held as usize, store, AREA_BYTES * i) {
+    if gather::contradicts(gather::held_of(marks), store, AREA_BYTES * i) {
         return unhandled(state, 9);
     }
     if packet.scrambling != 0 {

@@ -11,18 +11,18 @@ use lib.Dec.{eqb}
 use lib.ListN.{length, getD, set, length-set}
 use lib.Seq.{getD-set-same, getD-set-other}
 use Rattle.ground.specs.Walk.{total, count}
-use Rattle.ground.proofs.Test.{both-true}
 use Rattle.ground.proofs.Walk.{total-set, total-none, find-passes, passes-inside, all-at}
 use Rattle.ground.specs.Perhaps.{there, absent}
 use Rattle.gather.specs.Rule.{blank}
 use Rattle.gather.specs.Memory.{stateOf}
+use Rattle.gather.specs.declared.Marks.{Marks}
 use Rattle.state.specs.State.{isUsed, isOpen, isFree, areaStart, freePlaceOf, freeArea, freeFilter}
-use Rattle.sound.specs.Sound.{soundArea, isZeroArea}
+use Rattle.sound.specs.Sound.{soundArea}
 use Rattle.open_call.specs.Open.{areaFor, withUser, opened as openedState}
 use Rattle.state.specs.declared.Area.{Area}
 use Rattle.state.specs.declared.Filter.{Filter}
 use Rattle.state.specs.declared.State.{State}
-use Rattle.sound.proofs.Clauses.{open-stands}
+use Rattle.sound.proofs.Clauses.{free-marks, open-stands}
 use Rattle.open_call.proofs.OpenStaysSound.{ForPid, own, new, for-pid, others}
 use Rattle.state.proofs.Found.{found-area}
 use Rattle.driver.proofs.Cases.{Opens}
@@ -60,12 +60,7 @@ with-user-users pid q a owns = go (isUsed a) refl
 
 -- a sound area without users is blank
 free-blank : (a : Area) (store : List ℕ) (base : ℕ) → soundArea a ≡ true → isUsed a ≡ false → stateOf (a .marks) store base ≡ blank
-free-blank a store base e u =
-    let zero : isZeroArea a ≡ true = rw u at e in
-    let p2 = both-true (eqb (a .pid .0) 0 && eqb (a .marks .held) 0 && eqb (a .marks .seen) 0) (eqb (a .marks .counter) 0) zero in
-    let p1 = both-true (eqb (a .pid .0) 0 && eqb (a .marks .held) 0) (eqb (a .marks .seen) 0) (p2 .0) in
-    let p0 = both-true (eqb (a .pid .0) 0) (eqb (a .marks .held) 0) (p1 .0) in
-    rw (eqb-true (a .marks .held) 0 (p0 .1), p1 .1)
+free-blank a store base e u = ap (λ (m : Marks). stateOf m store base) (free-marks a e u)
 
 -- ---- the ledger
 module _ (w : World) (h : List AcceptedCall) (l : Ledger w h) (pid : ℕ) (o : Opens (w .state) pid) where

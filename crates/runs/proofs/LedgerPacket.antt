@@ -20,7 +20,7 @@ use Rattle.ground.proofs.Walk.{total-set, all-at}
 use Rattle.ground.proofs.Write.{length-put}
 use Rattle.gather.specs.Rule.{Outcome, rule}
 use Rattle.gather.specs.Kind.{join}
-use Rattle.gather.specs.Memory.{stateOf, stretch, lastOf}
+use Rattle.gather.specs.Memory.{heldOf, stateOf, stretch, lastOf}
 use Rattle.gather.proofs.RuleKeeps.{rule-keeps}
 use Rattle.gather.proofs.RuleOnMemory.{sound-says}
 use Rattle.gather.proofs.Stored.{state-again, output-cut}
@@ -129,7 +129,7 @@ module _ (w : World) (h : List AcceptedCall) (l : Ledger w h) (p out : List ℕ)
           let within : i < length (s .areas) = rw length-set at b in
           let few = sound-says (areaAt s i .marks) (marks-sound (areaAt s i) (all-at soundArea (s .areas) freeArea (l .clauses .areas) i within)) .held in
           rw (same, ne-eqb (pidOf p) (areaAt s i .pid .0) (λ e. n (own-only i within was e)))
-          (ap (λ (held : List ℕ). record { held = held; last = lastOf (areaAt s i .marks .seen) (areaAt s i .marks .counter) }) (elsewhere i (areaAt s i .marks .held) few n)
+          (ap (λ (held : List ℕ). record { held = held; last = lastOf (areaAt s i .marks) }) (elsewhere i (heldOf (areaAt s i .marks)) few n)
           ∙ l .remembers i within was)
 
   -- the sections in the output are those that the rule completes

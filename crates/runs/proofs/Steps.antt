@@ -11,7 +11,7 @@ use lib.ListN.{length, getD, replicate, getD-replicate}
 use Rattle.ground.specs.Answer.{given}
 use Rattle.ground.specs.Walk.{Every}
 use Rattle.ground.specs.Perhaps.{there, absent}
-use Rattle.gather.specs.Memory.{contradictsOf}
+use Rattle.gather.specs.Memory.{heldOf, contradictsOf}
 use Rattle.gather.specs.Kind.{contradicting}
 use Rattle.state.specs.State.{fresh, isUsed, isOpen, areaOf, areaStart, freeArea, freeFilter}
 use Rattle.sound.specs.Sound.{sound}
@@ -75,7 +75,7 @@ module _ (w : World) (h : List AcceptedCall) (l : Ledger w h) where
 
   -- the area of a PID never contradicts the state
   pub agrees : (pid : ℕ) → areaOf pid (w .state .areas) < length (w .state .areas)
-      → contradictsOf (areaAt (w .state) (areaOf pid (w .state .areas)) .marks .held) (w .store) (areaStart (areaOf pid (w .state .areas))) ≡ false
+      → contradictsOf (heldOf (areaAt (w .state) (areaOf pid (w .state .areas)) .marks)) (w .store) (areaStart (areaOf pid (w .state .areas))) ≡ false
   agrees pid b =
       let a = areaAt (w .state) (areaOf pid (w .state .areas)) in
       let used = found-area pid (w .state .areas) b .0 in

@@ -17,7 +17,7 @@ use Rattle.sound.specs.Sound.{sound}
 use Rattle.runs.specs.Run.{Driver, Call, openCall, closeCall, packetCall}
 use Rattle.runs.specs.History.{isAccepted, remembered}
 use Rattle.runs.specs.Demand.{DemandThree, Statement}
-use Rattle.runs.specs.Wrong.{freePlaceTold, closedPlaceTold, otherAreaWritten, jumpInvented, sectionsInvented, restFeigned, otherAreaSpoilt, packetsDropped, opensRefused, packetsRefused, freedAtFirstClose, usersInvented, numberGivenAgain, Excluded}
+use Rattle.runs.specs.Wrong.{freePlaceTold, closedPlaceTold, otherAreaWritten, jumpInvented, sectionsInvented, restFeigned, otherAreaSpoilt, repeatForgotten, packetsDropped, opensRefused, packetsRefused, freedAtFirstClose, usersInvented, numberGivenAgain, Excluded}
 
 -- a store that is not all zero
 abbrev full : List ℕ
@@ -75,6 +75,11 @@ other-area-spoilt s =
     let byte : _≡_ {A = ℕ} 0x47 0xAA = ap (λ (store : List ℕ). getD store 4096 0) (demanded otherAreaSpoilt s (openCall 0 ∷ []) .writes two lent refl) in
     omega arith
 
+-- the third packet with one counter is told as a repeat again
+repeat-forgotten : Statement repeatForgotten → ⊥
+unfolding openOf closeOf packetOf sound put rule walk add started classify kindOf remembered
+repeat-forgotten s = false≢true (ap (λ (r : Said). r .jump) (demanded repeatForgotten s (packetCall two lent ∷ packetCall two lent ∷ openCall 0 ∷ []) .whole two lent _ _ refl refl .0))
+
 packets-dropped : Statement packetsDropped → ⊥
 unfolding openOf closeOf packetOf sound put rule walk add started classify kindOf remembered
 packets-dropped s = false≢true (ap isAccepted (demanded packetsDropped s (openCall 0 ∷ []) .answers (packetCall two lent)))
@@ -116,7 +121,7 @@ excluded = (
             rest-feigned,
             (
               other-area-spoilt,
-              (packets-dropped, (opens-refused, (packets-refused, (freed-at-first-close, (users-invented, (number-given-again, tt)))))),
+              (repeat-forgotten, (packets-dropped, (opens-refused, (packets-refused, (freed-at-first-close, (users-invented, (number-given-again, tt))))))),
             ),
           ),
         ),

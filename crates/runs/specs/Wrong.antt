@@ -1,6 +1,6 @@
 -- Wrong drivers, each of which the demand excludes: document 01's "What the proofs have to say" and "Errors we have seen", and what a demand about open filters alone would let pass.
 use mathlib.Core.Bool.{true, cond, _||_}
-use mathlib.Core.List.{List, [], _∷_}
+use mathlib.Core.List.{List, [], _∷_, map}
 use Prim.Native.Nat.{ℕ, zero, suc, _+_, _-_, _*_}
 use lib.Dec.{eqb}
 use lib.ListN.{getD, take, drop, set, replicate}
@@ -113,6 +113,14 @@ otherAreaSpoilt =
     let a = packetOf s p store out in
     record { answer = a .answer; state = a .state; store = put (a .store) areaBytes (take 1 p); out = a .out })
 
+-- no area remembers that it has seen a repeat, so that a stuck counter never shows: document 01's rule before document 02's ticket 3
+abbrev pub repeatForgotten : Driver
+repeatForgotten =
+    withPacket (λ s p store out.
+    let a = packetOf s p store out in
+    let forgets : Area → Area = λ (x : Area). record { pid = x .pid; users = x .users; marks = record { «held_low» = x .marks .«held_low»; «held_high» = x .marks .«held_high»; seen = x .marks .seen; counter = x .marks .counter; repeated = 0 } } in
+    record { answer = a .answer; state = record { areas = map forgets (a .state .areas); filters = a .state .filters; next = a .state .next }; store = a .store; out = a .out })
+
 -- ---- who shares an area
 -- an area is freed at the first close
 abbrev pub freedAtFirstClose : Driver
@@ -148,6 +156,7 @@ wrong =
     ∷ sectionsInvented
     ∷ restFeigned
     ∷ otherAreaSpoilt
+    ∷ repeatForgotten
     ∷ packetsDropped
     ∷ opensRefused
     ∷ packetsRefused

@@ -6,13 +6,15 @@ use mathlib.Core.List.{List}
 use Prim.Native.Nat.{ℕ, _≤_, _<_}
 use native.Mathlib.Nat.{zero-add}
 use native.Mathlib.Omega.{arith}
-use borrow.Author.Tests.{leb-true, le-leb, not-true, eqb-false}
+use borrow.Author.Tests.{leb-true, le-leb, not-true, eqb-true, eqb-false}
 use lib.Dec.{leb, ltb, eqb}
 use lib.ListN.{length, getD}
 use Rattle.ground.specs.Walk.{all, apart, count}
 use Rattle.ground.proofs.Test.{both-true}
 use Rattle.ground.proofs.Walk.{count-le, all-at, passes-inside}
-use Rattle.gather.specs.Memory.{soundMarks}
+use Rattle.gather.specs.Memory.{noMarks, heldOf, soundMarks}
+use Rattle.gather.proofs.RuleOnMemory.{none-held}
+use Rattle.gather.specs.declared.Marks.{Marks}
 use Rattle.state.specs.State.{standsOn, freeArea, freeFilter, isOpen, isUsed}
 use Rattle.state.specs.declared.Area.{Area}
 use Rattle.state.specs.declared.State.{State}
@@ -26,18 +28,28 @@ used-sound a e u =
     both-true (leb (a .pid .0) 0x1FFE) (soundMarks (a .marks))
     (sym (ap (λ (b : Bool). cond b (leb (a .pid .0) 0x1FFE && soundMarks (a .marks)) (isZeroArea a)) u) ∙ e)
 
--- the marks of any sound area are sound: those of a free one are all zero
+-- the marks of a free one are all zero
+pub free-marks : (a : Area) → soundArea a ≡ true → isUsed a ≡ false → a .marks ≡ noMarks
+free-marks a e u =
+    let zero : isZeroArea a ≡ true = sym (ap (λ (b : Bool). cond b (leb (a .pid .0) 0x1FFE && soundMarks (a .marks)) (isZeroArea a)) u) ∙ e in
+    let p3 = both-true (eqb (a .pid .0) 0 && eqb (heldOf (a .marks)) 0 && eqb (a .marks .seen) 0 && eqb (a .marks .counter) 0) (eqb (a .marks .repeated) 0) zero in
+    let p2 = both-true (eqb (a .pid .0) 0 && eqb (heldOf (a .marks)) 0 && eqb (a .marks .seen) 0) (eqb (a .marks .counter) 0) (p3 .0) in
+    let p1 = both-true (eqb (a .pid .0) 0 && eqb (heldOf (a .marks)) 0) (eqb (a .marks .seen) 0) (p2 .0) in
+    let p0 = both-true (eqb (a .pid .0) 0) (eqb (heldOf (a .marks)) 0) (p1 .0) in
+    let none = both-true (eqb (a .marks .«held_low») 0) (eqb (a .marks .«held_high») 0) (none-held (a .marks .«held_low») (a .marks .«held_high») ∙ p0 .1) in
+    all-zero (a .marks .«held_low») (a .marks .«held_high») (a .marks .seen) (a .marks .counter) (a .marks .repeated) (none .0) (none .1) (p1 .1) (p2 .1) (p3 .1)
+  where
+    all-zero : (l h s c r : ℕ) → eqb l 0 ≡ true → eqb h 0 ≡ true → eqb s 0 ≡ true → eqb c 0 ≡ true → eqb r 0 ≡ true
+        → _≡_ {A = Marks} (record { «held_low» = l; «held_high» = h; seen = s; counter = c; repeated = r }) noMarks
+    all-zero l h s c r lz hz sz cz rz = rw (eqb-true l 0 lz, eqb-true h 0 hz, eqb-true s 0 sz, eqb-true c 0 cz, eqb-true r 0 rz)
+
+-- the marks of any sound area are sound
 pub marks-sound : (a : Area) → soundArea a ≡ true → soundMarks (a .marks) ≡ true
 marks-sound a e = go (isUsed a) refl
   where
     go : (b : Bool) → isUsed a ≡ b → soundMarks (a .marks) ≡ true
     go true u = used-sound a e u .1
-    go false u =
-        let zero : isZeroArea a ≡ true = sym (ap (λ (b : Bool). cond b (leb (a .pid .0) 0x1FFE && soundMarks (a .marks)) (isZeroArea a)) u) ∙ e in
-        let p2 = both-true (eqb (a .pid .0) 0 && eqb (a .marks .held) 0 && eqb (a .marks .seen) 0) (eqb (a .marks .counter) 0) zero in
-        let p1 = both-true (eqb (a .pid .0) 0 && eqb (a .marks .held) 0) (eqb (a .marks .seen) 0) (p2 .0) in
-        let p0 = both-true (eqb (a .pid .0) 0) (eqb (a .marks .held) 0) (p1 .0) in
-        rw (p1 .1, p0 .1, p2 .1)
+    go false u = ap soundMarks (free-marks a e u)
 
 -- the clauses of soundness
 pub record Clauses (s : State) : Type 0 where

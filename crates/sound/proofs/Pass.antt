@@ -10,17 +10,17 @@ use native.Mathlib.Omega.{arith}
 use borrow.Author.Tests.{eq-eqb, ne-eqb, eqb-true, eqb-false, ltb-true, lt-ltb, not-true}
 use native.Mathlib.Decide.{ℕ-discrete, decLt}
 use lib.Dec.{eqb, ltb, lit<}
-use lib.ListN.{length, drop, getD, set, replicate, getD-replicate, length-set, length-drop, List·getD-eq-default}
-use lib.Seq.{getD-drop, drop-cons, getD-set-same, getD-set-other}
+use lib.ListN.{length, drop, getD, set, replicate, getD-replicate, length-set, List·getD-eq-default}
+use lib.Seq.{drop-cons, getD-set-same, getD-set-other}
 use Rattle.ground.specs.Walk.{all, apart, count}
-use Rattle.ground.proofs.Test.{both-true, true-both}
-use Rattle.ground.proofs.Walk.{all-at, all-of, all-goes, apart-of, total-turn, total-at, total-none, count-le}
+use Rattle.ground.proofs.Test.{both-true, true-both, and-false}
+use Rattle.ground.proofs.Walk.{all-at, all-of, all-goes, all-weaker, apart-front, total-turn, total-at, total-none, count-le}
 use Rattle.ground.proofs.Kept.{Kept, kept-none, kept-one, kept-new, kept-met}
 use Rattle.state.specs.State.{isOpen, isUsed, standsOn, freeArea, freeFilter}
 use Rattle.state.specs.declared.Area.{Area}
 use Rattle.state.specs.declared.Filter.{Filter}
 use Rattle.sound.specs.Sound.{soundFilter, counted, sameNumber}
-use Rattle.sound.specs.Steps.{isNew, numberKept, isZeroPlace, agree, fitsPlace, countedIn, metIn, isMet, classOf}
+use Rattle.sound.specs.Steps.{isNew, numberKept, isZeroPlace, Counts, agree, fitsPlace, countedIn, metIn, isMet, classOf}
 
 -- ---- counts and users
 pub agree-turn : (counts : List ℕ) (areas : List Area) (i : ℕ) → i < length counts → i < length areas
@@ -28,7 +28,7 @@ pub agree-turn : (counts : List ℕ) (areas : List Area) (i : ℕ) → i < lengt
 agree-turn counts areas i p q = ap₂ agree (drop-cons counts i 0 p) (drop-cons areas i freeArea q)
 
 -- right counts agree exactly where the users are counted
-pub agree-counted : (filters : List Filter) (i : ℕ) (counts : List ℕ) (areas : List Area) → length counts ≡ length areas
+agree-counted : (filters : List Filter) (i : ℕ) (counts : List ℕ) (areas : List Area) → length counts ≡ length areas
     → ((k : ℕ) → k < length areas → getD counts k 0 ≡ count (standsOn (i + k)) filters) → agree counts areas ≡ counted filters i areas
 agree-counted filters i [] [] e right = refl
 agree-counted filters i [] (a ∷ areas) e right = absurd (omega arith)
@@ -38,6 +38,12 @@ agree-counted filters i (n ∷ counts) (a ∷ areas) e right =
     (right 0 (suc-le-suc zero-le) ∙ ap (λ (k : ℕ). count (standsOn k) filters) (add-zero i))
     (agree-counted filters (suc i) counts areas (omega arith)
     (λ k h. right (suc k) (suc-le-suc h) ∙ ap (λ (j : ℕ). count (standsOn j) filters) (add-suc i k ∙ sym (suc-add i k))))
+
+-- so they agree with the filters that were counted
+pub agree-counts : (filters : List Filter) (counts : List ℕ) (areas : List Area) → length areas ≡ 8 → Counts filters counts → agree counts areas ≡ counted filters 0 areas
+agree-counts filters counts areas long right =
+    agree-counted filters 0 counts areas (right .0 ∙ sym long)
+    (λ k h. right .1 k (rw long at h) ∙ ap (λ (j : ℕ). count (standsOn j) filters) (sym (zero-add k)))
 
 -- ---- one place counted
 counted-in : (counts : List ℕ) (f : Filter) (k : ℕ) → k < length counts → getD (countedIn counts f) k 0 ≡ getD counts k 0 + cond (standsOn k f) 1 0
@@ -217,33 +223,41 @@ open-inside next f e o =
     ltb-true (f .area) 8
     (both-true (ltb (f .number) next) (ltb (f .area) 8) (sym (ap (λ (b : Bool). cond b (ltb (f .number) next && ltb (f .area) 8) (eqb (f .area) 0)) o) ∙ e) .1)
 
+-- one test before three others
+pub regrouped : (x a b c : Bool) → (((x && a) && b) && c) ≡ (x && ((a && b) && c))
+regrouped true a b c = refl
+regrouped false a b c = refl
+
 -- the three clauses together
 abbrev pub clauses : ℕ → List Area → List Filter → Bool
 clauses next areas filters = all (soundFilter next areas) filters && apart sameNumber filters && counted filters 0 areas
 
 module _ (next : ℕ) (areas : List Area) (filters : List Filter) (long : length areas ≡ 8) where
-  pub clauses-ranged : all (fitsPlace next) filters ≡ false → clauses next areas filters ≡ false
+  clauses-ranged : all (fitsPlace next) filters ≡ false → clauses next areas filters ≡ false
   clauses-ranged e = rw (places-unsound next areas filters long e)
 
-  pub clauses-counted : counted filters 0 areas ≡ false → clauses next areas filters ≡ false
-  clauses-counted e = rw e (go (all (soundFilter next areas) filters && apart sameNumber filters))
-    where
-      go : (b : Bool) → (b && false) ≡ false
-      go true = refl
-      go false = refl
+  clauses-counted : counted filters 0 areas ≡ false → clauses next areas filters ≡ false
+  clauses-counted e = rw e (and-false (all (soundFilter next areas) filters && apart sameNumber filters))
 
-  pub clauses-apart : apart sameNumber filters ≡ false → clauses next areas filters ≡ false
-  clauses-apart e = rw e (go (all (soundFilter next areas) filters))
-    where
-      go : (b : Bool) → ((b && false) && counted filters 0 areas) ≡ false
-      go true = refl
-      go false = refl
+  clauses-apart : apart sameNumber filters ≡ false → clauses next areas filters ≡ false
+  clauses-apart e = rw (e, and-false (all (soundFilter next areas) filters))
 
-  pub clauses-left : all (fitsPlace next) filters ≡ true → apart sameNumber filters ≡ true → clauses next areas filters ≡ counted filters 0 areas
-  clauses-left r e = go (counted filters 0 areas) refl
+  -- where the pass over the places fails, they do
+  pub clauses-out : (all (fitsPlace next) filters && apart sameNumber filters) ≡ false → clauses next areas filters ≡ false
+  clauses-out e = go (all (fitsPlace next) filters) refl e
+    where
+      go : (b : Bool) → all (fitsPlace next) filters ≡ b → (b && apart sameNumber filters) ≡ false → clauses next areas filters ≡ false
+      go false q e = clauses-ranged q
+      go true q e = clauses-apart e
+
+  -- where it does not, what is left of them is that the users are counted
+  pub clauses-left : (all (fitsPlace next) filters && apart sameNumber filters) ≡ true → clauses next areas filters ≡ counted filters 0 areas
+  clauses-left e = go (counted filters 0 areas) refl
     where
       go : (b : Bool) → counted filters 0 areas ≡ b → clauses next areas filters ≡ b
-      go true q = rw (places-sound next areas filters long q ∙ r, e, q)
+      go true q =
+          let both = both-true (all (fitsPlace next) filters) (apart sameNumber filters) e in
+          rw (places-sound next areas filters long q ∙ both .0, both .1, q)
       go false q = clauses-counted q
 
 -- ---- two open filters have one number exactly where what is kept of them is equal
@@ -349,32 +363,22 @@ module _ (next : ℕ) (filters : List Filter) (counts met numbers : List ℕ) (i
 
   -- once all are passed but those that are all zero
   module _ (zeros : all isZeroPlace (drop i filters) ≡ true) where
-    zero-left : (j : ℕ) → j < length (drop i filters) → isZeroPlace (getD (drop i filters) j freeFilter) ≡ true
-    zero-left = all-at isZeroPlace (drop i filters) freeFilter zeros
+    pub passed-sound : (all (fitsPlace next) filters && apart sameNumber filters) ≡ true
+    passed-sound =
+        true-both (all (fitsPlace next) filters) (apart sameNumber filters)
+        (p .ranged ∙ all-weaker (fitsPlace next) isZeroPlace (drop i filters) (zero-fits next) zeros)
+        (apart-front sameNumber filters freeFilter i isZeroPlace (p .unlike .differ) zero-unlike zeros)
 
-    pub passed-ranged : all (fitsPlace next) filters ≡ true
-    passed-ranged = p .ranged ∙ all-of (fitsPlace next) (drop i filters) freeFilter (λ j h. zero-fits next (getD (drop i filters) j freeFilter) (zero-left j h))
-
-    pub passed-counts : (areas : List Area) → length areas ≡ 8 → agree counts areas ≡ counted filters 0 areas
-    passed-counts areas eight = agree-counted filters 0 counts areas (p .eight ∙ sym eight) right
+    pub passed-counts : Counts filters counts
+    passed-counts = (p .eight, right)
       where
-        right : (k : ℕ) → k < length areas → getD counts k 0 ≡ count (standsOn (0 + k)) filters
+        right : (k : ℕ) → k < 8 → getD counts k 0 ≡ count (standsOn k) filters
         right k h =
-            let e = p .tallied k (rw eight at h) in
+            let e = p .tallied k h in
             let none : count (standsOn k) (drop i filters) ≡ 0 =
-            total-none (λ f. cond (standsOn k f) 1 0) (drop i filters) freeFilter (λ j b. ap (λ (o : Bool). cond o 1 0) (zero-stands k (getD (drop i filters) j freeFilter) (zero-left j b))) in
-            rw (zero-add k) (omega arith)
-
-    pub passed-apart : apart sameNumber filters ≡ true
-    passed-apart = apart-of sameNumber filters freeFilter (λ j k h b. go j k h b (decLt k i))
-      where
-        go : (j k : ℕ) → j < k → k < length filters → Dec (k < i) → sameNumber (getD filters j freeFilter) (getD filters k freeFilter) ≡ false
-        go j k h b (yes q) = p .unlike .differ j k h q
-        go j k h b (no n) =
-            let back : i + (k - i) ≡ k = omega arith in
-            let inside : k - i < length (drop i filters) = simp length-drop (omega arith) in
-            let there = getD-drop i filters (k - i) freeFilter ∙ ap (λ (m : ℕ). getD filters m freeFilter) back in
-            zero-unlike (getD filters j freeFilter) (getD filters k freeFilter) (ap isZeroPlace (sym there) ∙ zero-left (k - i) inside)
+            total-none (λ f. cond (standsOn k f) 1 0) (drop i filters) freeFilter
+            (λ j b. ap (λ (o : Bool). cond o 1 0) (zero-stands k (getD (drop i filters) j freeFilter) (all-at isZeroPlace (drop i filters) freeFilter zeros j b))) in
+            omega arith
 
 -- users that are right at every area are counted
 counted-of : (filters : List Filter) (i : ℕ) (areas : List Area)

@@ -6,7 +6,7 @@ use lib.Dec.{ltb, leb, eqb}
 use lib.ListN.{getD}
 use Rattle.ground.specs.House.{lastFilterPid}
 use Rattle.ground.specs.Walk.{all, apart, count}
-use Rattle.gather.specs.Memory.{soundMarks}
+use Rattle.gather.specs.Memory.{heldOf, soundMarks}
 use Rattle.state.specs.State.{isUsed, isOpen, standsOn, freeArea}
 use Rattle.state.specs.declared.Area.{Area}
 use Rattle.state.specs.declared.Filter.{Filter}
@@ -15,9 +15,9 @@ use Rattle.state.specs.declared.State.{State}
 -- "records of free areas .. are all zero"
 abbrev pub isZeroArea : Area → Bool
 isZeroArea a =
-    eqb (a .pid .0) 0 && eqb (a .marks .held) 0 && eqb (a .marks .seen) 0 && eqb (a .marks .counter) 0
+    eqb (a .pid .0) 0 && eqb (heldOf (a .marks)) 0 && eqb (a .marks .seen) 0 && eqb (a .marks .counter) 0 && eqb (a .marks .repeated) 0
 
--- "used areas have .. PIDs .. each at most 0x1FFE"; "held bytes are 0 to 4,095; an area that has seen no counter holds 0 bytes and counter 0, any other used area a counter of 0 to 15"; that a counter was seen is marked by 0 or 1
+-- "used areas have .. PIDs .. each at most 0x1FFE"; "held bytes are 0 to 4,095; an area that has seen no counter holds 0 bytes and counter 0" and has seen no repeat, "any other used area a counter of 0 to 15"; that a counter was seen, and that its repeat was, is marked by 0 or 1
 abbrev pub soundArea : Area → Bool
 soundArea a = cond (isUsed a) (leb (a .pid .0) lastFilterPid && soundMarks (a .marks)) (isZeroArea a)
 

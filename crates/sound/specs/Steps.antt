@@ -1,13 +1,15 @@
--- What one pass over the areas and one over the filter places find out, for the private functions that test soundness; no public promise cites it.
+-- What one pass over the filter places and one over the areas find out, for the private functions that test soundness; no public promise cites it.
+use mathlib.Core.Path.{_≡_}
 use mathlib.Core.Bool.{Bool, true, cond, not, _&&_}
 use mathlib.Core.List.{List, [], _∷_}
-use Prim.Native.Nat.{ℕ, _+_, _%_}
+use Prim.Native.Nat.{ℕ, _+_, _%_, _<_}
 use lib.Dec.{ltb, eqb}
-use lib.ListN.{getD, set}
-use Rattle.ground.specs.Walk.{all}
-use Rattle.state.specs.State.{isOpen, isUsed}
+use lib.ListN.{length, getD, set}
+use Rattle.ground.specs.Walk.{all, count}
+use Rattle.state.specs.State.{isOpen, isUsed, standsOn}
 use Rattle.state.specs.declared.Area.{Area}
 use Rattle.state.specs.declared.Filter.{Filter}
+use Rattle.sound.specs.Sound.{isZeroArea}
 
 -- a number is none of these
 abbrev pub isNew : ℕ → List ℕ → Bool
@@ -43,6 +45,18 @@ metIn met f = cond (isOpen f) (set met (classOf f) 1) met
 -- another open filter of the class was met before
 abbrev pub isMet : List ℕ → Filter → Bool
 isMet met f = isOpen f && not (eqb (getD met (classOf f) 0) 0)
+
+-- the filters that stand on each area are counted
+abbrev pub Counts : List Filter → List ℕ → Type 0
+Counts filters counts = (length counts ≡ 8) × ((k : ℕ) → k < 8 → getD counts k 0 ≡ count (standsOn k) filters)
+
+-- an area is free, and its record all zero
+abbrev pub isFreeArea : Area → Bool
+isFreeArea a = eqb (a .users) 0 && isZeroArea a
+
+-- no filter was counted
+abbrev pub isNone : ℕ → Bool
+isNone n = eqb n 0
 
 -- each area has as many users as counted
 abbrev pub agree : List ℕ → List Area → Bool

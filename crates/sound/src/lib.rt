@@ -1,13 +1,14 @@
-// Whether a state is sound, each clause of "Sound means": one pass over the areas, one over the filter places, and the areas' users held to what the second counted.
+// Whether a state is sound, each clause of "Sound means": one pass over the filter places, which counts those on each area, and one over the areas, which holds their users to what was counted.
 ghost use mathlib.Core.Path.{_≡_};
 ghost use mathlib.Core.Bool.{true, _&&_};
 ghost use Prim.Native.Nat.{ℕ, _≤_, _<_};
-ghost use lib.ListN.{drop, getD};
+ghost use lib.ListN.{drop, getD, replicate};
 ghost use Rattle.ground.specs.Walk.{all, apart};
 ghost use Rattle.state.specs.State.{isOpen};
-ghost use Rattle.sound.specs.Sound.{soundArea, soundFilter, samePid, sameNumber, soundNext, counted};
+ghost use Rattle.sound.specs.Sound.{soundArea, samePid, sameNumber, soundNext};
 ghost use Rattle.sound.specs.Promises.{TellsSoundState};
-ghost use Rattle.sound.specs.Steps.{isNew, isZeroPlace, fitsPlace, countedIn, metIn, isMet, agree};
+ghost use Rattle.sound.specs.Steps.{isNew, isZeroPlace, fitsPlace, countedIn, metIn, isMet, Counts, isFreeArea, isNone, agree};
+use gather::Marks;
 use state::AREAS;
 use state::Area;
 use state::Filter;
@@ -26,15 +27,17 @@ fn next_is_sound(next: u32) -> bool
 }
 
 // Whether a free area's record is all zero, and a used one's PID and marks are in range.
-fn area_is_sound(area: Area) -> bool
-    ensures { λ r. ⌜ r ≡ soundArea area ⌝ }
+fn area_is_sound(pid: u16, users: u8, marks: Marks) -> bool
+    ensures { λ r. ⌜ r ≡ soundArea (record { pid = record { 0 = pid }; users = users; marks = marks }) ⌝ }
 {
-    let marks = area.marks;
-    let pid = area.pid;
-    if area.users != 0 {
-        return (pid.0 <= LAST_FILTER_PID) & gather::sound(marks);
+    if users != 0 {
+        return (pid <= LAST_FILTER_PID) & gather::sound(marks);
     }
-    (pid.0 == 0) & (marks.held == 0) & (marks.seen == 0) & (marks.counter == 0)
+    (pid == 0)
+        & ((marks.held_low == 0) & (marks.held_high == 0))
+        & (marks.seen == 0)
+        & (marks.counter == 0)
+        & (marks.repeated == 0)
 }
 
 // Whether a number is none of these: all are looked at, so that the compiler can compare many at once.
@@ -48,29 +51,6 @@ fn is_new(own: u16, others: &[u16]) -> bool
         i += 1;
     }
     !met
-}
-
-// Whether every area's record is sound by itself, and no PID has two areas: one pass, in which a used area's PID is compared with those before it.
-fn areas_are_sound(areas: [Area; AREAS]) -> bool
-    ensures { λ r. ⌜ r ≡ (all soundArea areas && apart samePid areas) ⌝ }
-{
-    let mut pids = [NO_PID; AREAS];
-    let mut i: usize = 0;
-    while i < AREAS {
-        let area = areas[i];
-        if !area_is_sound(area) {
-            return false;
-        }
-        if area.users != 0 {
-            let pid = area.pid;
-            if !is_new(pid.0, &pids) {
-                return false;
-            }
-            pids[i] = pid.0;
-        }
-        i += 1;
-    }
-    true
 }
 
 // Whether a place is in range by itself.
@@ -103,21 +83,6 @@ fn tally(filter: Filter, counts: &mut [u8; 8], met: &mut [u8; 256]) -> bool
     before != 0
 }
 
-// Whether each area has as many users as counted.
-fn counts_agree(counts: [u8; AREAS], areas: [Area; AREAS]) -> bool
-    ensures { λ r. ⌜ r ≡ agree counts areas ⌝ }
-{
-    let mut i: usize = 0;
-    while i < AREAS {
-        let area = areas[i];
-        if area.users != counts[i] {
-            return false;
-        }
-        i += 1;
-    }
-    true
-}
-
 // How many places there are up to the last that is not all zero: those behind it need no pass.
 fn end_of_places(filters: [Filter; PLACES]) -> usize
     ensures { λ r. ⌜ (r ≤ 32) × (all isZeroPlace (drop r filters) ≡ true) ⌝ }
@@ -133,12 +98,12 @@ fn end_of_places(filters: [Filter; PLACES]) -> usize
     0
 }
 
-// Whether the places, their numbers and the areas' user counts are sound: one pass, in which only a filter whose class was met before is compared with those before it.
-fn places_are_sound(areas: [Area; AREAS], filters: [Filter; PLACES], next: u32) -> bool
-    ensures { λ r. ⌜ r ≡ (all (soundFilter next areas) filters && apart sameNumber filters && counted filters 0 areas) ⌝ }
+// Whether the places are in range and no number is open twice, and how many filters stand on each area: one pass, in which only a filter whose class was met before is compared with those before it.
+fn places_are_sound(filters: [Filter; PLACES], next: u32, counts: &mut [u8; AREAS]) -> bool
+    requires { ⌜ now counts ≡ replicate 8 0 ⌝ }
+    ensures { λ r. ⌜ (r ≡ (all (fitsPlace next) filters && apart sameNumber filters)) × (r ≡ true → Counts filters (now (counts .exit))) ⌝ }
 {
     let end = end_of_places(filters);
-    let mut counts = [0u8; AREAS];
     let mut met = [0u8; 256];
     let mut numbers = [0u16; PLACES];
     let mut i: usize = 0;
@@ -147,7 +112,7 @@ fn places_are_sound(areas: [Area; AREAS], filters: [Filter; PLACES], next: u32) 
         if !fits_place(filter, next) {
             return false;
         }
-        if tally(filter, &mut counts, &mut met) {
+        if tally(filter, counts, &mut met) {
             if !is_new(filter.number, &numbers) {
                 return false;
             }
@@ -155,7 +120,71 @@ fn places_are_sound(areas: [Area; AREAS], filters: [Filter; PLACES], next: u32) 
         numbers[i] = filter.number;
         i += 1;
     }
-    counts_agree(counts, areas)
+    true
+}
+
+// How many areas there are up to the last that is not all zero, or on which a filter was counted: those behind it need no pass. All eight bytes of a record are tested at once, and so is the count.
+fn end_of_areas(areas: [Area; AREAS], counts: [u8; AREAS]) -> usize
+    ensures { λ r. ⌜ (r ≤ 8) × (all isFreeArea (drop r areas) ≡ true) × (all isNone (drop r counts) ≡ true) ⌝ }
+{
+    let mut end: usize = AREAS;
+    while 0 < end {
+        let area = areas[end - 1];
+        let pid = area.pid;
+        let marks = area.marks;
+        if (counts[end - 1] != 0)
+            | (area.users != 0)
+            | (pid.0 != 0)
+            | (marks.held_low != 0)
+            | (marks.held_high != 0)
+            | (marks.seen != 0)
+            | (marks.counter != 0)
+            | (marks.repeated != 0)
+        {
+            return end;
+        }
+        end -= 1;
+    }
+    0
+}
+
+// Whether every area's record is sound by itself, has as many users as counted, and no PID has two areas: one pass, in which a used area's PID is compared with those before it. The numbers of a record are read one by one, which costs less than to take a copy apart.
+fn areas_are_sound(areas: [Area; AREAS], counts: [u8; AREAS]) -> bool
+    ensures { λ r. ⌜ r ≡ (all soundArea areas && apart samePid areas && agree counts areas) ⌝ }
+{
+    let end = end_of_areas(areas, counts);
+    let mut pids = [NO_PID; AREAS];
+    let mut i: usize = 0;
+    while i < end {
+        let users = areas[i].users;
+        if users != counts[i] {
+            return false;
+        }
+        let pid = areas[i].pid.0;
+        let held_low = areas[i].marks.held_low;
+        let held_high = areas[i].marks.held_high;
+        let seen = areas[i].marks.seen;
+        let counter = areas[i].marks.counter;
+        let repeated = areas[i].marks.repeated;
+        let marks = Marks {
+            held_low,
+            held_high,
+            seen,
+            counter,
+            repeated,
+        };
+        if !area_is_sound(pid, users, marks) {
+            return false;
+        }
+        if users != 0 {
+            if !is_new(pid, &pids) {
+                return false;
+            }
+            pids[i] = pid;
+        }
+        i += 1;
+    }
+    true
 }
 
 // Whether the state is sound.
@@ -168,8 +197,9 @@ pub fn is_sound(state: State) -> bool
     if !next_is_sound(next) {
         return false;
     }
-    if !areas_are_sound(areas) {
+    let mut counts = [0u8; AREAS];
+    if !places_are_sound(filters, next, &mut counts) {
         return false;
     }
-    places_are_sound(areas, filters, next)
+    areas_are_sound(areas, counts)
 }

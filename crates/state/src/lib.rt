@@ -46,9 +46,11 @@ pub fn fresh() -> State
     ensures { λ r. ⌜ MakesFresh r ⌝ }
 {
     let marks = Marks {
-        held: 0,
+        held_low: 0,
+        held_high: 0,
         seen: 0,
         counter: 0,
+        repeated: 0,
     };
     let area = Area {
         pid: Pid(0),

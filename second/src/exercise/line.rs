@@ -12,7 +12,7 @@ pub struct Call {
 /// Each word with the highest value of each number, and whether bytes come last.
 pub const LINES: [(&str, &[u64], bool); 29] = [
     ("fresh", &[], false),
-    ("area", &[7, 65_535, 255, 65_535, 255, 255], false),
+    ("area", &[7, 65_535, 255, 65_535, 255, 255, 255], false),
     ("place", &[31, 65_535, 255], false),
     ("next", &[4_294_967_295], false),
     ("store", &[40_960], true),

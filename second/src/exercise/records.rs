@@ -20,8 +20,8 @@ pub fn records(state: &State) -> String {
 
 fn area_record(index: usize, area: &Area) -> String {
     format!(
-        "area {} {} {} {} {} {}",
-        index, area.pid, area.users, area.held, area.seen, area.counter
+        "area {} {} {} {} {} {} {}",
+        index, area.pid, area.users, area.held, area.seen, area.counter, area.repeated
     )
 }
 
@@ -36,6 +36,7 @@ pub fn set_area(state: &mut State, numbers: &[u64]) {
         held: numbers[3] as u16,
         seen: numbers[4] as u8,
         counter: numbers[5] as u8,
+        repeated: numbers[6] as u8,
     };
 }
 

@@ -5,6 +5,33 @@ use super::script::{field, Script};
 use crate::exercise::LINES;
 
 pub fn generate(random: &mut Random, script: &mut Script) {
+    let line = if random.one_in(40) {
+        area_line(random)
+    } else {
+        any_line(random)
+    };
+    script.text.extend(line);
+    script.text.push(b'\n');
+    script.calls += 1;
+    if random.one_in(20) {
+        script.call("close 0");
+        script.set_up("digest");
+        script.set_up("fresh");
+    }
+}
+
+/// The line of an area with 6, 7 or 8 numbers; the last is small, at REPEATED's limit or past it.
+fn area_line(random: &mut Random) -> Vec<u8> {
+    let mut fields = vec![String::from("area")];
+    for _ in 0..random.between(5, 7) {
+        fields.push(random.below(2).to_string());
+    }
+    fields.push(random.pick(&[0, 1, 2, 255, 256]).to_string());
+    fields.join(" ").into_bytes()
+}
+
+/// A line of any word, right or with something wrong.
+fn any_line(random: &mut Random) -> Vec<u8> {
     // The line of an area has the most numbers, so it comes more often than the others.
     let shape = if random.one_in(10) {
         1
@@ -20,7 +47,7 @@ pub fn generate(random: &mut Random, script: &mut Script) {
         let size = bytes_size(random, word);
         fields.push(field(&random.bytes(size)));
     }
-    let line = match random.below(6) {
+    match random.below(6) {
         0 | 1 => fields.join(" ").into_bytes(),
         2 if !ranges.is_empty() => {
             let index = random.below(ranges.len());
@@ -28,14 +55,6 @@ pub fn generate(random: &mut Random, script: &mut Script) {
             fields.join(" ").into_bytes()
         }
         _ => malformed(random, fields),
-    };
-    script.text.extend(line);
-    script.text.push(b'\n');
-    script.calls += 1;
-    if random.one_in(20) {
-        script.call("close 0");
-        script.set_up("digest");
-        script.set_up("fresh");
     }
 }
 

@@ -6,6 +6,7 @@ mod house;
 mod joints;
 mod states;
 mod streams;
+mod stuck;
 mod unsound;
 
 use super::random::Random;
@@ -14,12 +15,14 @@ use super::script::Script;
 type Scenario = fn(&mut Random, &mut Script);
 
 /// Each scenario with its weight.
-const SCENARIOS: [(usize, Scenario); 9] = [
+const SCENARIOS: [(usize, Scenario); 11] = [
     (4, streams::stream),
+    (3, stuck::bursts),
+    (8, stuck::marked),
     (26, joints::joint),
     (8, joints::longest),
     (16, faults::fault),
-    (16, unsound::broken),
+    (20, unsound::broken),
     (8, unsound::shaken),
     (14, contradictions::contradiction),
     (10, states::set_state),

@@ -63,9 +63,14 @@ pub fn counter_after(random: &mut Random, counter: u8) -> u8 {
     }
 }
 
-/// A packet of the PID with any content.
+/// A packet of the PID with any content, after one with the counter.
 pub fn any_packet(random: &mut Random, pid: u16, counter: u8) -> Vec<u8> {
     let counter = counter_after(random, counter);
+    packet_with(random, pid, counter)
+}
+
+/// A packet of the PID with that counter and any content.
+pub fn packet_with(random: &mut Random, pid: u16, counter: u8) -> Vec<u8> {
     if random.one_in(20) {
         let head = Head::new(pid, random.one_in(2), counter);
         return packet_around(random, head, &[]);

@@ -62,10 +62,8 @@ impl Script {
 
     fn area(&mut self, index: usize, area: &Area) {
         let counts = format!("{} {} {}", area.pid, area.users, area.held);
-        self.set_up(&format!(
-            "area {} {} {} {}",
-            index, counts, area.seen, area.counter
-        ));
+        let counters = format!("{} {} {}", area.seen, area.counter, area.repeated);
+        self.set_up(&format!("area {} {} {}", index, counts, counters));
     }
 }
 

@@ -49,6 +49,14 @@ fn a_repeat_and_a_cut_are_listed() {
     assert_eq!(listed(&input), lines.concat());
 }
 
+#[test]
+fn the_listing_of_a_stuck_counter() {
+    let packets = include_bytes!("../../examples/request-03.ts");
+    let lines = include_str!("../../examples/request-03.list");
+    assert_eq!(packets.len(), 1_128);
+    assert_eq!(listed(packets), lines);
+}
+
 fn generated(kind: &str, seed: u64) -> Vec<u8> {
     let mut script = Vec::new();
     generate::run(kind, seed, 400, &mut script).unwrap();

@@ -56,6 +56,7 @@ fn the_area_goes_with_the_last_filter() {
     state.areas[0].seen = 1;
     state.areas[0].held = 9;
     state.areas[0].counter = 3;
+    state.areas[0].repeated = 1;
     let area = state.areas[0];
     assert_eq!(close(&mut state, 1), Ok(()));
     assert_eq!(state.areas[0], Area { users: 1, ..area });

@@ -1,54 +1,9 @@
 //! The packet call: document 01's examples and the rules around them.
 
+use super::driver::{Driver, QUIET, REPEAT};
 use super::packet;
-use crate::filters_and_areas::open;
-use crate::from_payload_to_sections::{packet_call, Answer, Wanted};
+use crate::from_payload_to_sections::{packet_call, Answer};
 use crate::refusal_numbers::Refusal;
-use crate::state::State;
-
-struct Driver {
-    state: State,
-    store: Vec<u8>,
-    output: Vec<u8>,
-}
-
-impl Driver {
-    /// A fresh state with a filter on PID 0.
-    fn new() -> Driver {
-        let mut state = State::fresh();
-        assert_eq!(open(&mut state, 0), Ok((1, 0)));
-        Driver {
-            state,
-            store: vec![0x55; 32_768],
-            output: vec![0x66; 4_278],
-        }
-    }
-
-    fn call(&mut self, packet: &[u8]) -> Result<Answer, Refusal> {
-        packet_call(&mut self.state, &mut self.store, &mut self.output, packet)
-    }
-
-    /// Sections, bytes, jump, repeat and given up of a wanted packet.
-    fn wanted(&mut self, packet: &[u8]) -> (usize, usize, bool, bool, u32) {
-        match self.call(packet) {
-            Ok(Answer::Wanted(Wanted {
-                sections,
-                bytes,
-                set: 1,
-                jump,
-                repeat,
-                given_up,
-            })) => (sections, bytes, jump, repeat, given_up),
-            other => panic!("{:?}", other),
-        }
-    }
-
-    fn held(&self) -> u16 {
-        self.state.areas[0].held
-    }
-}
-
-const QUIET: (usize, usize, bool, bool, u32) = (0, 0, false, false, 0);
 
 #[test]
 fn adaptation_lengths_182_and_183() {
@@ -138,8 +93,7 @@ fn a_packet_without_payload_changes_nothing() {
     let without = packet(&[0x47, 0x40, 0, 0x27, 183, 0], 0xFF);
     assert_eq!(driver.wanted(&without), QUIET);
     assert_eq!(driver.state, before);
-    assert_eq!(driver.wanted(&first), (0, 0, false, true, 0));
-    assert_eq!(driver.state, before);
+    assert_eq!(driver.wanted(&first), REPEAT);
     first[4] = 183;
     assert_eq!(driver.call(&first), Err(Refusal(11)));
     let scrambled = packet(&[0x47, 0x40, 0, 0x67, 183, 0], 0xFF);

@@ -3,10 +3,8 @@
 use super::{outcome, outcomes};
 use crate::exercise;
 
-#[test]
-fn document_01_as_a_script() {
-    let script = include_str!("../../examples/document-01.script");
-    let expected = include_str!("../../examples/document-01.expected");
+/// Every line of the script has the expected outcome.
+fn answered(script: &str, expected: &str) {
     let mut output = Vec::new();
     exercise::run(&mut script.as_bytes(), &mut output).unwrap();
     let output = String::from_utf8(output).unwrap();
@@ -17,7 +15,23 @@ fn document_01_as_a_script() {
     assert_eq!(output, expected);
 }
 
-const MALFORMED: [&str; 31] = [
+#[test]
+fn document_01_as_a_script() {
+    answered(
+        include_str!("../../examples/document-01.script"),
+        include_str!("../../examples/document-01.expected"),
+    );
+}
+
+#[test]
+fn request_03_as_a_script() {
+    answered(
+        include_str!("../../examples/request-03.script"),
+        include_str!("../../examples/request-03.expected"),
+    );
+}
+
+const MALFORMED: [&str; 34] = [
     "",
     " ",
     "Open 1",
@@ -33,9 +47,12 @@ const MALFORMED: [&str; 31] = [
     "open +1",
     "open 1\r",
     "apart 18446744073709551616 0",
-    "area 8 0 0 0 0 0",
-    "area 0 0 0 0 256 0",
-    "area 0 0 0 65536 0 0",
+    "area 8 0 0 0 0 0 0",
+    "area 0 0 0 0 256 0 0",
+    "area 0 0 0 65536 0 0 0",
+    "area 0 0 0 0 0 0 256",
+    "area 0 0 0 0 0 0",
+    "area 0 0 0 0 0 0 0 0",
     "store 40960 =00",
     "store 40961 =",
     "store 18446744073709551615 =00",
@@ -71,7 +88,7 @@ fn lines_at_their_limits() {
         ("store 40960 =", "store"),
         ("output 8191 =ff", "output"),
         ("next 4294967295", "next"),
-        ("area 7 65535 255 65535 255 255", "area"),
+        ("area 7 65535 255 65535 255 255 255", "area"),
         ("packet 0 0 =", "packet refused 3 store - output - next 1"),
         ("alone =", "alone refused 2 payload 0 1"),
         ("crc =", "crc wrong"),
@@ -79,8 +96,11 @@ fn lines_at_their_limits() {
     for (line, expected) in pairs {
         assert_eq!(outcome(line), expected);
     }
-    let told = outcomes(&["area 7 65535 255 9 1 255", "close 0"]);
-    assert_eq!(told[1], "close refused 1 next 1 area 7 65535 255 9 1 255");
+    let told = outcomes(&["area 7 65535 255 9 1 255 254", "close 0"]);
+    let state = "next 1 area 7 65535 255 9 1 255 254";
+    assert_eq!(told[1], format!("close refused 1 {}", state));
+    let told = outcomes(&["area 7 0 0 0 0 0 1", "close 0"]);
+    assert_eq!(told[1], "close refused 1 next 1 area 7 0 0 0 0 0 1");
 }
 
 #[test]

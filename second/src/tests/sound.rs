@@ -6,7 +6,7 @@ use crate::refusal_numbers::Refusal;
 use crate::soundness::{self, sound, Clause, CLAUSES};
 use crate::state::{Area, Place, State};
 
-/// Two PIDs, three filters, and bytes held on the second PID.
+/// Two PIDs, three filters, and on the second PID bytes held and a repeat seen.
 fn right() -> State {
     let mut state = State::fresh();
     for pid in [0x10, 0x11, 0x10] {
@@ -15,6 +15,7 @@ fn right() -> State {
     state.areas[1].seen = 1;
     state.areas[1].counter = 15;
     state.areas[1].held = 4_095;
+    state.areas[1].repeated = 1;
     assert!(sound(&state));
     state
 }
@@ -108,6 +109,18 @@ fn areas_without_counter() {
 }
 
 #[test]
+fn areas_without_counter_but_a_repeat() {
+    let mut state = right();
+    state.areas[0].repeated = 1;
+    breaks(state, soundness::areas_without_counter_saw_no_repeat);
+    for repeated in [2, 255] {
+        let mut state = right();
+        state.areas[0].repeated = repeated;
+        assert!(!sound(&state));
+    }
+}
+
+#[test]
 fn areas_with_counter() {
     let mut state = right();
     state.areas[1].counter = 16;
@@ -120,6 +133,22 @@ fn marks_of_a_counter() {
         let mut state = right();
         state.areas[1].seen = seen;
         breaks(state, soundness::marks_of_a_counter_are_0_or_1);
+    }
+}
+
+#[test]
+fn marks_of_a_repeat() {
+    for held in [0, 1, 4_095] {
+        let mut state = right();
+        state.areas[1].held = held;
+        for repeated in [0, 1] {
+            state.areas[1].repeated = repeated;
+            assert!(sound(&state));
+        }
+        for repeated in [2, 3, 255] {
+            state.areas[1].repeated = repeated;
+            breaks(state.clone(), soundness::marks_of_a_repeat_are_0_or_1);
+        }
     }
 }
 
@@ -138,13 +167,16 @@ fn filters_on_used_areas() {
 #[test]
 fn free_records() {
     let records = [
-        (1, 0, 0, 0),
-        (0, 1, 0, 0),
-        (0, 2, 0, 0),
-        (0, 1, 7, 0),
-        (0, 1, 0, 1),
+        (1, 0, 0, 0, 0),
+        (0, 1, 0, 0, 0),
+        (0, 2, 0, 0, 0),
+        (0, 1, 7, 0, 0),
+        (0, 1, 0, 1, 0),
+        (0, 0, 0, 0, 1),
+        (0, 0, 0, 0, 255),
+        (0, 1, 0, 0, 1),
     ];
-    for (pid, seen, counter, held) in records {
+    for (pid, seen, counter, held, repeated) in records {
         let mut state = right();
         state.areas[7] = Area {
             pid,
@@ -152,6 +184,7 @@ fn free_records() {
             held,
             seen,
             counter,
+            repeated,
         };
         breaks(state, soundness::free_records_are_zero);
     }

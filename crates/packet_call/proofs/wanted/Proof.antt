@@ -12,7 +12,7 @@ use Rattle.gather.specs.Memory.{stateOf}
 use Rattle.state.specs.State.{areaStart, freeArea}
 use Rattle.packet_call.specs.Packet.{putBack}
 use Rattle.packet_call.proofs.PacketRead.{read-same, start-inside, part-payload, payload-short, counter-few, packet-same}
-use Rattle.packet_call.proofs.Order.{tests-contradict, tests-scrambled, tests-none-left, tests-passed}
+use Rattle.packet_call.proofs.Order.{contradicts-told, tests-contradict, tests-scrambled, tests-none-left, tests-passed}
 use Rattle.packet_call.proofs.wanted.Statement.{statement}
 use Rattle.packet_call.proofs.wanted.Tie as tie
 
@@ -22,8 +22,8 @@ mul-area c = search needs
 array-copy-out-area : tie.Need-array-copy-out-area
 array-copy-out-area c = search needs
 
-cast-contradicts : tie.Need-cast-contradicts
-cast-contradicts c = search needs
+held-of-requires : tie.Need-held-of-requires
+held-of-requires c κs = search needs
 
 mul-contradicts : tie.Need-mul-contradicts
 mul-contradicts c = search needs
@@ -40,9 +40,9 @@ same-length c = search needs
 returns : tie.Need-returns
 returns c =
     let a = c .before .before .before .before .before .before .before .before .before .before .before .args in
-    let contradicts = c .before .before .contradicts in
+    let contradicts = contradicts-told (a .state) (a .i) (now (a .bytes)) (now (a .store)) (now (a .out)) (c .before .before .before .before .held-of .ensures) (c .before .before .contradicts .ensures) in
     rw (c .unhandled .ensures)
-    (sym (tests-contradict (a .state) (a .i) (now (a .bytes)) (now (a .store)) (now (a .out)) (sym (contradicts .ensures) ∙ c .before .if1 .taken)))
+    (sym (tests-contradict (a .state) (a .i) (now (a .bytes)) (now (a .store)) (now (a .out)) (contradicts ∙ c .before .if1 .taken)))
 
 unhandled-requires-2 : tie.Need-unhandled-requires-2
 unhandled-requires-2 c κs = search needs
@@ -54,11 +54,11 @@ returns-2 : tie.Need-returns-2
 returns-2 c =
     let a = c .before .before .before .before .before .before .before .before .before .before .before .before .before .args in
     let pre = c .before .before .before .before .before .before .before .before .before .before .before .before .before .pre in
-    let contradicts = c .before .before .before .before .contradicts in
+    let contradicts = contradicts-told (a .state) (a .i) (now (a .bytes)) (now (a .store)) (now (a .out)) (c .before .before .before .before .before .before .held-of .ensures) (c .before .before .before .before .contradicts .ensures) in
     let if1 = c .before .before .before .if1 in
     let scrambling : contents (now (a .bytes)) .scrambling ≡ a .packet .scrambling = ap (λ (q : Contents). q .scrambling) (read-same (now (a .bytes)) (a .packet) (pre .1 .1)) in
     rw (c .unhandled2 .ensures)
-    (sym (tests-scrambled (a .state) (a .i) (now (a .bytes)) (now (a .store)) (now (a .out)) (sym (contradicts .ensures) ∙ if1 .left) (λ e. c .before .if2 .taken (sym scrambling ∙ e))))
+    (sym (tests-scrambled (a .state) (a .i) (now (a .bytes)) (now (a .store)) (now (a .out)) (contradicts ∙ if1 .left) (λ e. c .before .if2 .taken (sym scrambling ∙ e))))
 
 payload-start-requires : tie.Need-payload-start-requires
 payload-start-requires c κs = search needs
@@ -95,7 +95,7 @@ returns-3 : tie.Need-returns-3
 returns-3 c =
     let a = c .before .before .before .before .before .before .before .before .before .before .before .before .before .before .before .before .before .args in
     let pre = c .before .before .before .before .before .before .before .before .before .before .before .before .before .before .before .before .before .pre in
-    let contradicts = c .before .before .before .before .before .before .before .before .contradicts in
+    let contradicts = contradicts-told (a .state) (a .i) (now (a .bytes)) (now (a .store)) (now (a .out)) (c .before .before .before .before .before .before .before .before .before .before .held-of .ensures) (c .before .before .before .before .before .before .before .before .contradicts .ensures) in
     let if1 = c .before .before .before .before .before .before .before .if1 in
     let if2 = c .before .before .before .before .before .if2 in
     let payload-start = c .before .before .before .before .payload-start in
@@ -106,7 +106,7 @@ returns-3 c =
     let part = ap (λ (n : ℕ). take (length b - n) (drop n b)) (payload-start .ensures) ∙ part-payload b (a .packet) (pre .1 .1) in
     let none = leaves-none .ensures ∙ ap₂ leavesNone (ap (λ (q : Contents). q .unitStart) (sym same)) part in
     rw (c .unhandled3 .ensures)
-    (sym (tests-none-left (a .state) (a .i) b (now (a .store)) (now (a .out)) (sym (contradicts .ensures) ∙ if1 .left) (scrambling ∙ if2 .left) (sym none ∙ c .before .if3 .taken)))
+    (sym (tests-none-left (a .state) (a .i) b (now (a .store)) (now (a .out)) (contradicts ∙ if1 .left) (scrambling ∙ if2 .left) (sym none ∙ c .before .if3 .taken)))
 
 gathered-requires : tie.Need-gathered-requires
 gathered-requires c κs =
@@ -129,7 +129,7 @@ returns-4 : tie.Need-returns-4
 returns-4 c =
     let a = c .before .before .before .before .before .before .before .before .before .before .before .before .before .before .before .before .before .before .before .before .before .before .before .args in
     let pre = c .before .before .before .before .before .before .before .before .before .before .before .before .before .before .before .before .before .before .before .before .before .before .before .pre in
-    let contradicts = c .before .before .before .before .before .before .before .before .before .before .before .before .before .before .contradicts in
+    let contradicts = contradicts-told (a .state) (a .i) (now (a .bytes)) (now (a .store)) (now (a .out)) (c .before .before .before .before .before .before .before .before .before .before .before .before .before .before .before .before .held-of .ensures) (c .before .before .before .before .before .before .before .before .before .before .before .before .before .before .contradicts .ensures) in
     let if1 = c .before .before .before .before .before .before .before .before .before .before .before .before .before .if1 in
     let if2 = c .before .before .before .before .before .before .before .before .before .before .before .if2 in
     let payload-start = c .before .before .before .before .before .before .before .before .before .before .payload-start in
@@ -147,7 +147,7 @@ returns-4 c =
     let brought = packet-same _ _ _ _ _ _ (ap (λ (q : Contents). q .counter) (sym same)) (ap (λ (q : Contents). q .unitStart) (sym same)) part in
     gathered .ensures
     ∙ ap (λ (k : Packet). putBack s (a .i) (rule (stateOf (getD (s .areas) (a .i) freeArea .marks) store (areaStart (a .i))) k) store out) brought
-    ∙ sym (tests-passed s (a .i) b store out (sym (contradicts .ensures) ∙ if1 .left) (scrambling ∙ if2 .left) (sym none ∙ if3 .left))
+    ∙ sym (tests-passed s (a .i) b store out (contradicts ∙ if1 .left) (scrambling ∙ if2 .left) (sym none ∙ if3 .left))
 
 pub wanted-spec : {M : Type 1} → statement M
 wanted-spec =
@@ -155,7 +155,7 @@ wanted-spec =
     (tie.spec
     mul-area
     array-copy-out-area
-    cast-contradicts
+    held-of-requires
     mul-contradicts
     contradicts-requires
     unhandled-requires

@@ -1,32 +1,37 @@
--- The pass finds the places in range, the users counted and the numbers apart; the three clauses follow from that.
+-- The pass finds the places in range, the numbers apart and the users counted, or a place that makes one of the first two false.
 -- Assumes nothing.
 use mathlib.Core.Path.{_≡_, sym, _∙_, ap}
-use mathlib.Core.Bool.{true}
+use mathlib.Core.Bool.{Bool, true, _&&_, false≢true}
 use mathlib.Core.Logic.{⊎-elim}
 use Prim.Native.Nat.{ℕ, _-_, _≤_, _<_}
 use native.Mathlib.Omega.{arith}
 use borrow.Author.Tests.{not-true, not-false}
 use lib.ListN.{length, drop, getD}
 use borrow.Author.Needs.{needs}
-use Rattle.ground.specs.Walk.{all}
+use Rattle.ground.specs.Walk.{all, apart}
+use Rattle.ground.proofs.Test.{and-false}
 use Rattle.ground.proofs.Walk.{all-stops}
 use Rattle.state.specs.State.{freeFilter}
+use Rattle.sound.specs.Sound.{sameNumber}
 use Rattle.sound.specs.Steps.{fitsPlace, isZeroPlace}
-use Rattle.sound.proofs.Pass.{Passed, passed-none, passed-unmet, passed-compared, passed-met, passed-ranged, passed-counts, passed-apart, counts-small, clauses-ranged, clauses-apart, clauses-left, open-inside}
+use Rattle.sound.proofs.Pass.{Passed, passed-none, passed-unmet, passed-compared, passed-met, passed-sound, passed-counts, counts-small, open-inside}
 use Rattle.sound.proofs.places_are_sound.Statement.{statement}
 use Rattle.sound.proofs.places_are_sound.Tie as tie
 
 abbrev Inv-loop : tie.InvT-loop
-Inv-loop areas next filters end counts₀ met₀ numbers₀ i₀ counts met numbers i = Passed next filters counts met numbers i × (i ≤ end)
+Inv-loop next counts₀ filters end met₀ numbers₀ i₀ counts met numbers i = Passed next filters counts met numbers i × (i ≤ end)
 
 abbrev μ-loop : tie.MeasureT-loop
-μ-loop areas next filters end counts₀ met₀ numbers₀ i₀ counts met numbers i = end - i
+μ-loop next counts₀ filters end met₀ numbers₀ i₀ counts met numbers i = end - i
 
 end-of-places-requires : tie.Need-end-of-places-requires Inv-loop μ-loop
 end-of-places-requires c κs = search needs
 
 loop-holds : tie.Need-loop-holds Inv-loop μ-loop
-loop-holds c = let a = c .before .args in let long : length (a .t2) ≡ 32 = search needs in (passed-none (a .next) (a .t2) long, omega arith)
+loop-holds c =
+    let a = c .before .args in
+    let long : length (a .t1) ≡ 32 = search needs in
+    (rw (c .before .pre) (passed-none (a .next) (a .t1) long), omega arith)
 
 mul-filter : tie.Need-mul-filter Inv-loop μ-loop
 mul-filter c = search needs
@@ -41,21 +46,20 @@ returns : tie.Need-returns Inv-loop μ-loop
 returns c =
     let a = c .before .before .before .before .before .before .args in
     let at = c .before .before .before .before .loop in
-    let eight : length (a .areas) ≡ 8 = search needs in
-    let long : length (a .t2) ≡ 32 = search needs in
-    sym
-    (clauses-ranged (a .next) (a .areas) (a .t2) eight
-    (all-stops (fitsPlace (a .next)) (a .t2) (at .i) (all (fitsPlace (a .next)) (a .t2)) (at .inv .0 .ranged) freeFilter (omega (arith, c .before .before .before .before .before .end-of-places .ensures .0))
-    (sym (c .before .fits-place .ensures) ∙ not-true _ (c .if1 .taken))))
+    let long : length (a .t1) ≡ 32 = search needs in
+    let out =
+    all-stops (fitsPlace (a .next)) (a .t1) (at .i) (all (fitsPlace (a .next)) (a .t1)) (at .inv .0 .ranged) freeFilter (omega (arith, c .before .before .before .before .before .end-of-places .ensures .0))
+    (sym (c .before .fits-place .ensures) ∙ not-true _ (c .if1 .taken)) in
+    (sym (ap (λ (b : Bool). b && apart sameNumber (a .t1)) out), λ e. absurd (false≢true e))
 
 tally-requires : tie.Need-tally-requires Inv-loop μ-loop
 tally-requires c κs =
     let a = c .before .before .before .before .before .before .before .before .args in
     let at = c .before .before .before .before .before .before .loop in
     let fits = sym (c .before .before .before .fits-place .ensures) ∙ not-false _ (c .before .before .if1 .left) in
-    let long : length (a .t2) ≡ 32 = search needs in (
-      open-inside (a .next) (getD (a .t2) (at .i) freeFilter) fits,
-      counts-small (a .next) (a .t2) (at .counts) (at .met) (at .numbers) (at .i) long (at .inv .0),
+    let long : length (a .t1) ≡ 32 = search needs in (
+      open-inside (a .next) (getD (a .t1) (at .i) freeFilter) fits,
+      counts-small (a .next) (a .t1) (at .counts) (at .met) (at .numbers) (at .i) long (at .inv .0),
     )
 
 slice-aggregate-is-new : tie.Need-slice-aggregate-is-new Inv-loop μ-loop
@@ -68,13 +72,12 @@ returns-2 : tie.Need-returns-2 Inv-loop μ-loop
 returns-2 c =
     let a = c .before .before .before .before .before .before .before .before .before .before .before .before .before .args in
     let at = c .before .before .before .before .before .before .before .before .before .before .before .loop in
-    let eight : length (a .areas) ≡ 8 = search needs in
-    let long : length (a .t2) ≡ 32 = search needs in
+    let long : length (a .t1) ≡ 32 = search needs in
     let inside : at .i < 32 = omega (arith, c .before .before .before .before .before .before .before .before .before .before .before .before .end-of-places .ensures .0) in
-    sym
-    (clauses-apart (a .next) (a .areas) (a .t2) eight
-    (passed-met (a .next) (a .t2) (at .counts) (at .met) (at .numbers) (at .i) long (at .inv .0) inside (sym (c .before .before .before .before .tally .ensures .0) ∙ c .before .before .before .if2 .taken)
-    (sym (c .before .is-new .ensures) ∙ not-true _ (c .if3 .taken))))
+    let met =
+    passed-met (a .next) (a .t1) (at .counts) (at .met) (at .numbers) (at .i) long (at .inv .0) inside (sym (c .before .before .before .before .tally .ensures .0) ∙ c .before .before .before .if2 .taken)
+    (sym (c .before .is-new .ensures) ∙ not-true _ (c .if3 .taken)) in
+    (sym (rw (met, and-false (all (fitsPlace (a .next)) (a .t1)))), λ e. absurd (false≢true e))
 
 mul-numbers : tie.Need-mul-numbers Inv-loop μ-loop
 mul-numbers c = search needs
@@ -94,33 +97,26 @@ loop-again c =
     let at = c .before .before .before .before .before .before .before .before .loop in
     let fits = sym (c .before .before .before .before .before .fits-place .ensures) ∙ not-false _ (c .before .before .before .before .if1 .left) in
     let tallied = c .before .tally .ensures in
-    let long : length (a .t2) ≡ 32 = search needs in
+    let long : length (a .t1) ≡ 32 = search needs in
     let inside : at .i < 32 = omega (arith, c .before .before .before .before .before .before .before .before .before .end-of-places .ensures .0) in (
       rw (tallied .1, tallied .2)
           (⊎-elim
-          (λ w. passed-compared (a .next) (a .t2) (at .counts) (at .met) (at .numbers) (at .i) long (at .inv .0) inside fits (sym (w .2 .ensures) ∙ not-false _ (w .3 .left)))
-          (λ w. passed-unmet (a .next) (a .t2) (at .counts) (at .met) (at .numbers) (at .i) long (at .inv .0) inside fits (sym (tallied .0) ∙ w .left))
+          (λ w. passed-compared (a .next) (a .t1) (at .counts) (at .met) (at .numbers) (at .i) long (at .inv .0) inside fits (sym (w .2 .ensures) ∙ not-false _ (w .3 .left)))
+          (λ w. passed-unmet (a .next) (a .t1) (at .counts) (at .met) (at .numbers) (at .i) long (at .inv .0) inside fits (sym (tallied .0) ∙ w .left))
           (c .if2 .came)),
       omega arith,
     )
 
-counts-agree-requires : tie.Need-counts-agree-requires Inv-loop μ-loop
-counts-agree-requires c κs = search needs
-
 returns-3 : tie.Need-returns-3 Inv-loop μ-loop
 returns-3 c =
-    let a = c .before .before .before .before .args in
-    let at = c .before .before .loop in
-    let eight : length (a .areas) ≡ 8 = search needs in
-    let long : length (a .t2) ≡ 32 = search needs in
-    let done : at .i ≡ c .before .before .before .end-of-places .result = omega (arith, c .before .loop-test .left, at .inv .1) in
-    let zeros : all isZeroPlace (drop (at .i) (a .t2)) ≡ true = ap (λ (n : ℕ). all isZeroPlace (drop n (a .t2))) done ∙ c .before .before .before .end-of-places .ensures .1 in
-    c .counts-agree .ensures
-    ∙ passed-counts (a .next) (a .t2) (at .counts) (at .met) (at .numbers) (at .i) long (at .inv .0) zeros (a .areas) eight
-    ∙ sym
-    (clauses-left (a .next) (a .areas) (a .t2) eight
-    (passed-ranged (a .next) (a .t2) (at .counts) (at .met) (at .numbers) (at .i) long (at .inv .0) zeros)
-    (passed-apart (a .next) (a .t2) (at .counts) (at .met) (at .numbers) (at .i) long (at .inv .0) zeros))
+    let a = c .before .before .before .args in
+    let at = c .before .loop in
+    let long : length (a .t1) ≡ 32 = search needs in
+    let done : at .i ≡ c .before .before .end-of-places .result = omega (arith, c .loop-test .left, at .inv .1) in
+    let zeros : all isZeroPlace (drop (at .i) (a .t1)) ≡ true = ap (λ (n : ℕ). all isZeroPlace (drop n (a .t1))) done ∙ c .before .before .end-of-places .ensures .1 in (
+      sym (passed-sound (a .next) (a .t1) (at .counts) (at .met) (at .numbers) (at .i) long (at .inv .0) zeros),
+      λ e. passed-counts (a .next) (a .t1) (at .counts) (at .met) (at .numbers) (at .i) long (at .inv .0) zeros,
+    )
 
 pub places-are-sound-spec : {M : Type 1} → statement M
 places-are-sound-spec =
@@ -143,5 +139,4 @@ places-are-sound-spec =
     add-i
     loop-less
     loop-again
-    counts-agree-requires
     returns-3)

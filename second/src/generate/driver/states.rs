@@ -63,7 +63,7 @@ pub fn sound_state(random: &mut Random) -> State {
     state
 }
 
-/// A sound state with filters on one PID.
+/// A sound state with filters on one PID, whose area has seen the counter and perhaps its repeat.
 pub fn one_pid(random: &mut Random, pid: u16, held: usize, counter: u8) -> (State, usize) {
     let mut state = State::fresh();
     let index = random.below(AREAS);
@@ -82,6 +82,7 @@ pub fn one_pid(random: &mut Random, pid: u16, held: usize, counter: u8) -> (Stat
         held: held as u16,
         seen: 1,
         counter,
+        repeated: random.below(2) as u8,
     };
     (state, index)
 }
@@ -99,6 +100,7 @@ fn used_area(random: &mut Random, state: &State) -> Area {
         held: if seen { held_count(random) as u16 } else { 0 },
         seen: u8::from(seen),
         counter: if seen { random.below(16) as u8 } else { 0 },
+        repeated: if seen { random.below(2) as u8 } else { 0 },
     }
 }
 

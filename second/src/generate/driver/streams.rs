@@ -62,7 +62,7 @@ fn packets_of(random: &mut Random, pid: u16, most: usize) -> Vec<Vec<u8>> {
 }
 
 /// The queues merged, each in its own order.
-fn interleaved(random: &mut Random, mut queues: Vec<Vec<Vec<u8>>>) -> Vec<Vec<u8>> {
+pub fn interleaved(random: &mut Random, mut queues: Vec<Vec<Vec<u8>>>) -> Vec<Vec<u8>> {
     let mut merged = Vec::new();
     queues.iter_mut().for_each(|queue| queue.reverse());
     while !queues.is_empty() {
@@ -87,7 +87,7 @@ fn damaged(random: &mut Random, packets: Vec<Vec<u8>>, one_in: usize) -> Vec<Vec
         }
         match random.below(7) {
             0 => {}
-            1 => left.extend([packet.clone(), packet]),
+            1 => left.extend(vec![packet; random.between(2, 7)]),
             2 => left.insert(left.len().saturating_sub(1), packet),
             3 => {
                 let at = random.below(packet.len());

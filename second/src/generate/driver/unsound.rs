@@ -27,8 +27,13 @@ const BREAKS: [(Clause, Break); CLAUSES.len()] = [
     (soundness::the_next_number_is_in_range, break_next),
     (soundness::held_bytes_are_below_a_whole_area, break_held),
     (soundness::areas_without_counter_hold_nothing, break_unseen),
+    (
+        soundness::areas_without_counter_saw_no_repeat,
+        break_unseen_repeats,
+    ),
     (soundness::areas_with_counter_have_four_bits, break_counters),
     (soundness::marks_of_a_counter_are_0_or_1, break_marks),
+    (soundness::marks_of_a_repeat_are_0_or_1, break_repeats),
     (soundness::open_filters_stand_on_used_areas, break_standing),
     (soundness::free_records_are_zero, break_free),
 ];
@@ -190,6 +195,12 @@ fn break_unseen(random: &mut Random, state: &mut State) {
     }
 }
 
+fn break_unseen_repeats(random: &mut Random, state: &mut State) {
+    if let Some((_, area)) = chosen(random, state, |area| area.used() && !area.has_seen()) {
+        area.repeated = 1;
+    }
+}
+
 fn break_counters(random: &mut Random, state: &mut State) {
     if let Some((_, area)) = chosen(random, state, |area| area.used() && area.has_seen()) {
         area.counter = random.pick(&[16, 17, 128, 255]);
@@ -199,6 +210,12 @@ fn break_counters(random: &mut Random, state: &mut State) {
 fn break_marks(random: &mut Random, state: &mut State) {
     if let Some((_, area)) = chosen(random, state, Area::used) {
         area.seen = random.pick(&[2, 3, 128, 255]);
+    }
+}
+
+fn break_repeats(random: &mut Random, state: &mut State) {
+    if let Some((_, area)) = chosen(random, state, |area| area.used() && area.has_seen()) {
+        area.repeated = random.pick(&[2, 2, 3, 128, 255, 255]);
     }
 }
 
@@ -257,7 +274,7 @@ fn break_standing(random: &mut Random, state: &mut State) {
 fn break_free(random: &mut Random, state: &mut State) {
     let area = some_area(random, state, |area| !area.used());
     let place = some_place(random, state, false);
-    match (random.below(5), area, place) {
+    match (random.below(6), area, place) {
         (0, Some(area), _) => state.areas[area].pid = random.pick(&[1, 0x1FFE, 0xFFFF]),
         (1, Some(area), _) => state.areas[area].seen = random.pick(&[1, 2, 255]),
         (2, Some(area), _) => {
@@ -268,6 +285,7 @@ fn break_free(random: &mut Random, state: &mut State) {
             state.areas[area].seen = 1;
             state.areas[area].counter = random.pick(&[1, 15]);
         }
+        (4, Some(area), _) => state.areas[area].repeated = random.pick(&[1, 1, 2, 255]),
         (_, _, Some(place)) => state.places[place].area = random.pick(&[1, 7, 8, 255]),
         _ => {}
     }
@@ -278,14 +296,15 @@ pub fn shaken(random: &mut Random, script: &mut Script) {
     let mut state = sound_state(random);
     let index = random.below(AREAS);
     let area = &mut state.areas[index];
-    match random.below(9) {
+    match random.below(10) {
         0 => area.pid = random.pick(&[0, 0x1FFE, 0x1FFF]),
         1 => area.users = random.below(4) as u8,
         2 => area.held = random.pick(&[0, 1, 4_095, 4_096]),
         3 => area.seen = random.pick(&[0, 1, 2, 255]),
         4 => area.counter = random.pick(&[0, 15, 16]),
-        5 => *area = Area::default(),
-        6 => state.next = random.pick(&[0, 1, 2, 33, 65_535, 65_536, 65_537]),
+        5 => area.repeated = random.pick(&[0, 1, 2, 255]),
+        6 => *area = Area::default(),
+        7 => state.next = random.pick(&[0, 1, 2, 33, 65_535, 65_536, 65_537]),
         _ => {
             state.places[random.below(PLACES)] = Place {
                 number: random.pick(&[0, 1, 2, 40, 65_535]),

@@ -1,0 +1,53 @@
+//! What coverage counts in the states that outcomes print.
+
+use crate::coverage::Counts;
+
+/// A state with areas on PIDs 0 and 1, of which the first has the rest of its record given.
+fn state(rest: &str) -> String {
+    format!(
+        "next 3 area 0 0 1 {} area 1 1 1 0 0 0 0 place 0 1 0 place 1 2 1",
+        rest
+    )
+}
+
+/// How often `repeated` and `stuck` are counted in some outcomes.
+fn repeated_and_stuck(outcomes: &[String]) -> (u64, u64) {
+    let mut counts = Counts::default();
+    outcomes.iter().for_each(|line| counts.outcome(line));
+    (counts.get("repeated"), counts.get("stuck"))
+}
+
+const JUMP: &str = "packet wanted 0 0 1 1 0 1 store - output -";
+
+#[test]
+fn a_stuck_counter_is_counted() {
+    let marked = format!("open given 2 1 {}", state("183 1 5 1"));
+    let jump = format!("{} {}", JUMP, state("0 1 5 0"));
+    let both = [marked.clone(), jump.clone()];
+    assert_eq!(repeated_and_stuck(&both), (1, 1));
+    for between in ["bad", "store", "digest 1 1", "pid 1"] {
+        let lines = [marked.clone(), String::from(between), jump.clone()];
+        assert_eq!(repeated_and_stuck(&lines), (1, 1), "{}", between);
+    }
+    for between in ["area", "place", "next", "fresh next 1"] {
+        let lines = [marked.clone(), String::from(between), jump.clone()];
+        assert_eq!(repeated_and_stuck(&lines), (1, 0), "{}", between);
+    }
+    assert_eq!(repeated_and_stuck(&both[1..]), (0, 0));
+}
+
+#[test]
+fn other_jumps_are_not_stuck() {
+    let jump = |rest: &str| format!("{} {}", JUMP, state(rest));
+    let marked = jump("183 1 5 1");
+    for rest in ["0 1 7 0", "183 1 5 1", "0 1 5 1", "0 0 5 0"] {
+        let (_, stuck) = repeated_and_stuck(&[marked.clone(), jump(rest)]);
+        assert_eq!(stuck, 0, "{}", rest);
+    }
+    let lines = [jump("183 1 5 0"), jump("0 1 5 0")];
+    assert_eq!(repeated_and_stuck(&lines), (0, 0));
+    let other = jump("0 1 5 0").replace("area 1 1 1 0 0 0 0", "area 1 1 1 0 1 0 0");
+    assert_eq!(repeated_and_stuck(&[marked.clone(), other]), (1, 0));
+    let original = jump("0 1 5 0").replace(JUMP, "packet wanted 0 0 1 0 0 0 store - output -");
+    assert_eq!(repeated_and_stuck(&[marked, original]), (1, 0));
+}
