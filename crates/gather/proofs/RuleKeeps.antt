@@ -202,8 +202,11 @@ add-ends = add-ind (λ held new y. 0 < length (y .sections) → length (y .held)
     step held new (Whole n) h e l = refl
 
 pub never-starts : (s : State) (p : Packet) → p .start ≡ false → Never s (rule s p)
-never-starts s p u = rule-ind s p (Never s) (λ z. record { none = λ z. (refl, z); ends = λ l. absurd (not-suc-le-zero l) }) (λ e r. record { none = λ z. (refl, z); ends = λ l. absurd (not-suc-le-zero l) }) on
+never-starts s p u = rule-ind s p (Never s) (λ z. still (s .last) false) (λ e r. still (marked (s .last)) true) on
   where
+    still : (l : Last) (again : Bool) → Never s (record { next = record { held = s .held; last = l }; sections = []; jump = false; repeat = again; givenUp = 0 })
+    still l again = record { none = λ z. (refl, z); ends = λ l. absurd (not-suc-le-zero l) }
+
     on : (length (p .payload) ≡ 0 → ⊥) → repeats (s .last) (p .counter) ≡ false
         → Never s (taken (jumps (s .last) (p .counter)) (p .counter) (lost (jumps (s .last) (p .counter)) (s .held))
         (yield (kept (jumps (s .last) (p .counter)) (s .held)) (p .start) (p .payload)))

@@ -61,6 +61,10 @@ repeatedOf (seen l repeated) = cond repeated 1 0
 abbrev pub marksAs : ℕ → ℕ → ℕ → ℕ → Marks
 marksAs held mark counter repeated = record { «held_low» = held % 256; «held_high» = held / 256; seen = mark; counter = counter; repeated = repeated }
 
+-- marks that say something else of the repeat
+abbrev pub withRepeated : Marks → ℕ → Marks
+withRepeated m repeated = record { «held_low» = m .«held_low»; «held_high» = m .«held_high»; seen = m .seen; counter = m .counter; repeated = repeated }
+
 -- the marks of what an area remembers
 abbrev pub marksOf : State → Marks
 marksOf s = marksAs (length (s .held)) (seenOf (s .last)) (counterOf (s .last)) (repeatedOf (s .last))

@@ -13,7 +13,7 @@ use Rattle.gather.specs.declared.kind.Kind.{Kind}
 use Rattle.gather.specs.declared.kind.Kind.the-variants.{Nothing, Part, Overlong, Whole}
 use Rattle.gather.specs.Kind.{join}
 use Rattle.gather.specs.Rule.{Yield}
-use Rattle.gather.specs.Memory.{marksAs}
+use Rattle.gather.specs.Memory.{marksAs, withRepeated}
 
 -- the bytes may be held: they are a part of a section
 abbrev pub isPart : Kind → Bool
@@ -62,7 +62,7 @@ originalOf held counter = marksAs held 1 counter 0
 -- the numbers of a packet that is not gathered, one without payload or a repeat
 abbrev pub ungatheredOf : Marks → ℕ → Bool → Gathered
 ungatheredOf m repeated again =
-    record { marks = record { «held_low» = m .«held_low»; «held_high» = m .«held_high»; seen = m .seen; counter = m .counter; repeated = repeated }; sections = 0; bytes = 0; jump = false; repeat = again; «given_up» = 0 }
+    record { marks = withRepeated m repeated; sections = 0; bytes = 0; jump = false; repeat = again; «given_up» = 0 }
 
 -- the numbers of a packet that is taken
 abbrev pub takenOf : Marks → Bool → ℕ → Sizes → Gathered

@@ -10,6 +10,7 @@ use Rattle.ground.specs.Set.{setOf}
 use Rattle.ground.specs.Walk.{Every}
 use Rattle.ground.specs.Write.{put}
 use Rattle.section.specs.Section.{sectionSize}
+use Rattle.gather.specs.Memory.{withRepeated}
 use Rattle.state.specs.State.{isFree, standsOn, areaOf, placeOf, freeArea}
 use Rattle.open_call.specs.Open.{AfterOpen, openOf}
 use Rattle.close_call.specs.Close.{AfterClose, closeOf, areaAt}
@@ -118,7 +119,7 @@ abbrev pub repeatForgotten : Driver
 repeatForgotten =
     withPacket (λ s p store out.
     let a = packetOf s p store out in
-    let forgets : Area → Area = λ (x : Area). record { pid = x .pid; users = x .users; marks = record { «held_low» = x .marks .«held_low»; «held_high» = x .marks .«held_high»; seen = x .marks .seen; counter = x .marks .counter; repeated = 0 } } in
+    let forgets : Area → Area = λ (x : Area). record { pid = x .pid; users = x .users; marks = withRepeated (x .marks) 0 } in
     record { answer = a .answer; state = record { areas = map forgets (a .state .areas); filters = a .state .filters; next = a .state .next }; store = a .store; out = a .out })
 
 -- ---- who shares an area

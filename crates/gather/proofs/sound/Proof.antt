@@ -1,6 +1,5 @@
 -- `sound` tests what the marks have to be, seen or not; of what is held it tests the two bytes.
 -- Assumes nothing.
-use mathlib.Core.Path.{_≡_}
 use Prim.Native.Nat.{_≤_}
 use native.Mathlib.Omega.{arith}
 use borrow.Author.Tests.{le-leb, eq-eqb, ne-eqb}
