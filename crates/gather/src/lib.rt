@@ -130,14 +130,10 @@ fn lost(jump: bool, held: usize) -> u8
 fn ungathered(marks: Marks, repeated: u8, repeat: bool) -> Gathered
     ensures { λ r. ⌜ r ≡ ungatheredOf marks repeated repeat ⌝ }
 {
+    let mut next = marks;
+    next.repeated = repeated;
     Gathered {
-        marks: Marks {
-            held_low: marks.held_low,
-            held_high: marks.held_high,
-            seen: marks.seen,
-            counter: marks.counter,
-            repeated,
-        },
+        marks: next,
         sections: 0,
         bytes: 0,
         jump: false,
