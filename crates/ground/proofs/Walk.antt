@@ -122,6 +122,16 @@ module _ {ℓ} {A : Type ℓ} where
   pub all-turn : (p : A → Bool) (l : List A) (i : ℕ) (d : A) → i < length l → all p (drop i l) ≡ (p (getD l i d) && all p (drop (suc i) l))
   all-turn p l i d h = rw (drop-cons l i d h)
 
+  -- a search from the end: none is behind the end, and one that passes joins those behind it
+  pub all-behind : (p : A → Bool) (l : List A) (end : ℕ) → length l ≤ end → all p (drop end l) ≡ true
+  all-behind p l end h = ap (all p) (drop-of-length-le l h)
+
+  pub all-back : (p : A → Bool) (l : List A) (end : ℕ) (d : A) → 0 < end → end ≤ length l → p (getD l (end - 1) d) ≡ true → all p (drop end l) ≡ true
+      → all p (drop (end - 1) l) ≡ true
+  all-back p l end d s h e rest =
+      let back : suc (end - 1) ≡ end = omega arith in
+      all-turn p l (end - 1) d (omega arith) ∙ rw (e, back, rest)
+
   -- what all pass each passes
   pub all-at : (p : A → Bool) (l : List A) (d : A) → all p l ≡ true → (i : ℕ) → i < length l → p (getD l i d) ≡ true
   all-at p [] d e i h = absurd (not-suc-le-zero h)

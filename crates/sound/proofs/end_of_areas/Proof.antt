@@ -2,13 +2,12 @@
 -- Assumes nothing.
 use mathlib.Core.Path.{_≡_, sym, _∙_, ap}
 use mathlib.Core.Bool.{true}
-use Prim.Native.Nat.{ℕ, suc, _≤_, _-_}
+use Prim.Native.Nat.{ℕ, _≤_, _-_}
 use native.Mathlib.Omega.{arith}
-use lib.ListN.{length, drop, getD, drop-of-length-le}
+use lib.ListN.{length, drop, getD}
 use borrow.Author.Needs.{needs}
 use Rattle.ground.specs.Walk.{all}
-use Rattle.ground.proofs.Test.{true-both}
-use Rattle.ground.proofs.Walk.{all-turn}
+use Rattle.ground.proofs.Walk.{all-behind, all-back}
 use Rattle.state.specs.State.{freeArea}
 use Rattle.sound.specs.Steps.{isFreeArea, isNone}
 use Rattle.sound.proofs.Areas.{free-tested}
@@ -25,9 +24,7 @@ loop-holds : tie.Need-loop-holds Inv-loop μ-loop
 loop-holds c =
     let long : length (c .args .t1) ≡ 8 = search needs in
     let eight : length (c .args .t2) ≡ 8 = search needs in
-    let past : length (c .args .t1) ≤ 8 = omega arith in
-    let beyond : length (c .args .t2) ≤ 8 = omega arith in
-    (omega arith, ap (all isFreeArea) (drop-of-length-le (c .args .t1) past), ap (all isNone) (drop-of-length-le (c .args .t2) beyond))
+    (omega arith, all-behind isFreeArea (c .args .t1) 8 (omega arith), all-behind isNone (c .args .t2) 8 (omega arith))
 
 sub-area : tie.Need-sub-area Inv-loop μ-loop
 sub-area c = search needs
@@ -59,14 +56,10 @@ loop-again c =
     let a = c .before .before .before .before .before .before .before .before .before .before .before .before .before .args in
     let long : length (a .t1) ≡ 8 = search needs in
     let eight : length (a .t2) ≡ 8 = search needs in
-    let back : suc (at .end - 1) ≡ at .end = omega arith in
-    let own = getD (a .t1) (at .end - 1) freeArea in
-    let count = getD (a .t2) (at .end - 1) 0 in
-    let tested = free-tested count own (c .if1 .left) in (
+    let tested = free-tested (getD (a .t2) (at .end - 1) 0) (getD (a .t1) (at .end - 1) freeArea) (c .if1 .left) in (
       omega arith,
-      all-turn isFreeArea (a .t1) (at .end - 1) freeArea (omega arith)
-          ∙ true-both (isFreeArea own) _ (tested .1) (ap (λ (n : ℕ). all isFreeArea (drop n (a .t1))) back ∙ at .inv .1),
-      all-turn isNone (a .t2) (at .end - 1) 0 (omega arith) ∙ true-both (isNone count) _ (tested .0) (ap (λ (n : ℕ). all isNone (drop n (a .t2))) back ∙ at .inv .2),
+      all-back isFreeArea (a .t1) (at .end) freeArea (omega arith) (omega arith) (tested .1) (at .inv .1),
+      all-back isNone (a .t2) (at .end) 0 (omega arith) (omega arith) (tested .0) (at .inv .2),
     )
 
 returns-2 : tie.Need-returns-2 Inv-loop μ-loop

@@ -2,13 +2,12 @@
 -- Assumes nothing.
 use mathlib.Core.Path.{_≡_, sym, _∙_, ap}
 use mathlib.Core.Bool.{true}
-use Prim.Native.Nat.{ℕ, suc, _≤_, _-_}
+use Prim.Native.Nat.{ℕ, _≤_, _-_}
 use native.Mathlib.Omega.{arith}
-use lib.ListN.{length, drop, getD, drop-of-length-le}
+use lib.ListN.{length, drop, getD}
 use borrow.Author.Needs.{needs}
 use Rattle.ground.specs.Walk.{all}
-use Rattle.ground.proofs.Test.{true-both}
-use Rattle.ground.proofs.Walk.{all-turn}
+use Rattle.ground.proofs.Walk.{all-behind, all-back}
 use Rattle.state.specs.State.{freeFilter}
 use Rattle.sound.specs.Steps.{isZeroPlace}
 use Rattle.sound.proofs.Pass.{zero-place}
@@ -22,10 +21,7 @@ abbrev μ-loop : tie.MeasureT-loop
 μ-loop filters end₀ end = end
 
 loop-holds : tie.Need-loop-holds Inv-loop μ-loop
-loop-holds c =
-    let long : length (c .args .t1) ≡ 32 = search needs in
-    let past : length (c .args .t1) ≤ 32 = omega arith in
-    (omega arith, ap (all isZeroPlace) (drop-of-length-le (c .args .t1) past))
+loop-holds c = let long : length (c .args .t1) ≡ 32 = search needs in (omega arith, all-behind isZeroPlace (c .args .t1) 32 (omega arith))
 
 sub-filter : tie.Need-sub-filter Inv-loop μ-loop
 sub-filter c = search needs
@@ -50,11 +46,7 @@ loop-again c =
     let at = c .before .before .before .before .before .loop in
     let l = c .before .before .before .before .before .before .args .t1 in
     let long : length l ≡ 32 = search needs in
-    let back : suc (at .end - 1) ≡ at .end = omega arith in (
-      omega arith,
-      all-turn isZeroPlace l (at .end - 1) freeFilter (omega arith)
-          ∙ true-both (isZeroPlace (getD l (at .end - 1) freeFilter)) _ (zero-place (getD l (at .end - 1) freeFilter) (c .if1 .left)) (ap (λ (n : ℕ). all isZeroPlace (drop n l)) back ∙ at .inv .1),
-    )
+    (omega arith, all-back isZeroPlace l (at .end) freeFilter (omega arith) (omega arith) (zero-place (getD l (at .end - 1) freeFilter) (c .if1 .left)) (at .inv .1))
 
 returns-2 : tie.Need-returns-2 Inv-loop μ-loop
 returns-2 c = let none : c .before .loop .end ≡ 0 = omega arith in (omega arith, ap (λ (n : ℕ). all isZeroPlace (drop n (c .before .before .args .t1))) (sym none) ∙ c .before .loop .inv .1)
