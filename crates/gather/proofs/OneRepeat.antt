@@ -24,12 +24,12 @@ without s p h = rule-empty s p (eqb-true (length (p .payload)) 0 (not-false (eqb
 
 -- ---- the last counter once more
 module _ (held : List ℕ) (counter : ℕ) (p : Packet) (b : Brings counter p) where
-  first : rule (record { held = held; last = seen counter false }) p
+  the-first : rule (record { held = held; last = seen counter false }) p
       ≡ record { next = record { held = held; last = seen counter true }; sections = []; jump = false; repeat = true; givenUp = 0 }
-  first = rule-repeat (record { held = held; last = seen counter false }) p (some p (b .0)) (rw (eq-eqb (p .counter) counter (b .1)))
+  the-first = rule-repeat (record { held = held; last = seen counter false }) p (some p (b .0)) (rw (eq-eqb (p .counter) counter (b .1)))
 
-  second : rule (record { held = held; last = seen counter true }) p ≡ taken true counter (unfinished held) (yield [] (p .start) (p .payload))
-  second =
+  the-next : rule (record { held = held; last = seen counter true }) p ≡ taken true counter (unfinished held) (yield [] (p .start) (p .payload))
+  the-next =
       let same = eq-eqb (p .counter) counter (b .1) in
       rule-taken (record { held = held; last = seen counter true }) p (some p (b .0)) (rw same) ∙ rw (same, b .1)
 
@@ -37,10 +37,10 @@ module _ (held : List ℕ) (counter : ℕ) (p : Packet) (b : Brings counter p) w
 module _ (s : State) (p : Packet) (counter : ℕ) (b : Brings counter p) where
   by-mark : (repeated : Bool) → s .last ≡ seen counter repeated → (rule s p .repeat ≡ not repeated) × (rule s p .jump ≡ repeated)
   by-mark false e =
-      let o : rule s p ≡ _ = ap (λ (l : Last). rule (record { held = s .held; last = l }) p) e ∙ first (s .held) counter p b in
+      let o : rule s p ≡ _ = ap (λ (l : Last). rule (record { held = s .held; last = l }) p) e ∙ the-first (s .held) counter p b in
       (ap (λ (o : Outcome). o .repeat) o, ap (λ (o : Outcome). o .jump) o)
   by-mark true e =
-      let o : rule s p ≡ _ = ap (λ (l : Last). rule (record { held = s .held; last = l }) p) e ∙ second (s .held) counter p b in
+      let o : rule s p ≡ _ = ap (λ (l : Last). rule (record { held = s .held; last = l }) p) e ∙ the-next (s .held) counter p b in
       (ap (λ (o : Outcome). o .repeat) o, ap (λ (o : Outcome). o .jump) o)
 
 -- ---- what an area remembers after a packet with payload: its counter, and whether it was a repeat
@@ -148,7 +148,7 @@ module _ (p : Packet) (ps : List Packet) (later : (held : List ℕ) (l : Last) �
       go : (repeated same : Bool) → eqb (p .counter) l ≡ same → isThrice (recent (seen l repeated) ++ p .counter ∷ counters ps) ≡ false → Same held (seen l repeated) (p ∷ ps)
       go false true c h =
           let is-last = eqb-true (p .counter) l c in
-          step held (seen l false) _ (first held l p (e, is-last)) (base-repeat (record { held = held; last = seen l false }) p e c) (rw is-last at h)
+          step held (seen l false) _ (the-first held l p (e, is-last)) (base-repeat (record { held = held; last = seen l false }) p e c) (rw is-last at h)
       go true true c h = absurd (false≢true (sym (thrice-not l (l ∷ p .counter ∷ counters ps) h .0) ∙ rw (eq-eqb l l refl, c)))
       go false false c h = both-take held (seen l false) e (rw c) c (rw c) (thrice-not l (p .counter ∷ counters ps) h .1)
       go true false c h = both-take held (seen l true) e (rw c) c (rw c) (thrice-not l (p .counter ∷ counters ps) (thrice-not l (l ∷ p .counter ∷ counters ps) h .1) .1)
@@ -173,8 +173,8 @@ pub one-repeat : OneRepeatHolds
 one-repeat =
     record {
       without = without;
-      first = first;
-      second = second;
+      theFirst = the-first;
+      theNext = the-next;
       once = once;
       either = either;
       stuckShows = stuck-shows;

@@ -33,7 +33,7 @@ pub record SoundMarks (m : Marks) : Type 0 where
   pub repeat : m .repeated ≤ 1
   pub fresh : m .seen ≡ 0 → m .counter ≡ 0
   pub empty : m .seen ≡ 0 → heldOf m ≡ 0
-  pub first : m .seen ≡ 0 → m .repeated ≡ 0
+  pub unrepeated : m .seen ≡ 0 → m .repeated ≡ 0
 
 pub sound-says : (m : Marks) → soundMarks m ≡ true → SoundMarks m
 sound-says m e = let p = both-true (leb (m .«held_low») 255) _ e in go (leb-true (m .«held_low») 255 (p .0)) (eqb (m .seen) 0) refl (p .1)
@@ -48,7 +48,7 @@ sound-says m e = let p = both-true (leb (m .«held_low») 255) _ e in go (leb-tr
         let h = eqb-true (heldOf m) 0 (q .0) in
         let k = eqb-true (m .counter) 0 (q .1) in
         let r = eqb-true (m .repeated) 0 (p .1) in
-        record { byte = byte; held = omega arith; counter = omega arith; mark = omega arith; repeat = omega arith; fresh = λ f. k; empty = λ f. h; first = λ f. r }
+        record { byte = byte; held = omega arith; counter = omega arith; mark = omega arith; repeat = omega arith; fresh = λ f. k; empty = λ f. h; unrepeated = λ f. r }
     go byte false s e =
         let p = both-true (eqb (m .seen) 1 && leb (heldOf m) 4095 && leb (m .counter) 15) (leb (m .repeated) 1) e in
         let q = both-true (eqb (m .seen) 1 && leb (heldOf m) 4095) (leb (m .counter) 15) (p .0) in
@@ -63,7 +63,7 @@ sound-says m e = let p = both-true (leb (m .«held_low») 255) _ e in go (leb-tr
           repeat = leb-true (m .repeated) 1 (p .1);
           fresh = λ f. absurd (never f);
           empty = λ f. absurd (never f);
-          first = λ f. absurd (never f);
+          unrepeated = λ f. absurd (never f);
         }
 
 -- ---- what is held, by its two bytes
@@ -110,7 +110,7 @@ last-marks m w = go (eqb (m .seen) 0) refl
         (seenOf l ≡ m .seen) × (counterOf l ≡ m .counter) × (repeatedOf l ≡ m .repeated)
     go true e =
         let z = eqb-true (m .seen) 0 e in
-        (sym z, sym (w .fresh z), sym (w .first z))
+        (sym z, sym (w .fresh z), sym (w .unrepeated z))
     go false e =
         let n = eqb-false (m .seen) 0 e in
         (omega (arith, n, w .mark), refl, one-or-none (m .repeated) (w .repeat))

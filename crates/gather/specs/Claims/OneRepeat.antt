@@ -82,11 +82,11 @@ pub record OneRepeatHolds : Type 0 where
   -- "A packet without payload changes nothing and gets no mark": neither jump nor repeat, and the area's mark stays
   pub without : (s : State) (p : Packet) → hasPayload p ≡ false → rule s p ≡ unchanged s
   -- "only the first such packet after an original is a repeat": it is told as such, and no more than the mark changes
-  pub first : (held : List ℕ) (counter : ℕ) (p : Packet) → Brings counter p
+  pub theFirst : (held : List ℕ) (counter : ℕ) (p : Packet) → Brings counter p
       → rule (record { held = held; last = seen counter false }) p
       ≡ record { next = record { held = held; last = seen counter true }; sections = []; jump = false; repeat = true; givenUp = 0 }
   -- "the next is a jump and counts as an original, its payload gathered as after any jump": held bytes are given up, and nothing is held before its payload
-  pub second : (held : List ℕ) (counter : ℕ) (p : Packet) → Brings counter p
+  pub theNext : (held : List ℕ) (counter : ℕ) (p : Packet) → Brings counter p
       → rule (record { held = held; last = seen counter true }) p ≡ taken true counter (unfinished held) (yield [] (p .start) (p .payload))
   -- after a repeat the next packet is none, whatever its counter
   pub once : (s : State) (p q : Packet) → rule s p .repeat ≡ true → rule (rule s p .next) q .repeat ≡ false
