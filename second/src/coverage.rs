@@ -37,7 +37,7 @@ const CALLS: [(&str, &[u32]); 22] = [
 ];
 
 /// Things that must occur beside the refusals.
-const MARKS: [&str; 16] = [
+const MARKS: [&str; 19] = [
     "wanted",
     "unwanted",
     "jump",
@@ -47,6 +47,9 @@ const MARKS: [&str; 16] = [
     "cut1",
     "cut2",
     "sections61",
+    "begun61",
+    "part61",
+    "begun",
     "given",
     "closed",
     "right",
@@ -110,11 +113,17 @@ impl Counts {
             (6, "1", "repeat"),
             (7, "1", "cut1"),
             (7, "2", "cut2"),
+            (8, "61", "begun61"),
         ];
         for (place, value, name) in marks {
             if parts.get(place) == Some(&value) {
                 self.add(name);
             }
+        }
+        match (parts.get(2), parts.get(8)) {
+            (Some(&"60"), Some(&"61")) => self.add("part61"),
+            (Some(&"0"), Some(begun)) if *begun != "0" => self.add("begun"),
+            _ => {}
         }
         if parts.get(5) == Some(&"1") && shown.forgot {
             self.add("stuck");

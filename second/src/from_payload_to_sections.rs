@@ -1,4 +1,4 @@
-//! Document 01, "From payload to sections", with request 3 of document 02: the packet call on whole buffers.
+//! Document 01, "From payload to sections", with requests 3 and 10 of document 02: the packet call on whole buffers.
 
 use crate::bytes::number_in;
 use crate::numbers_of_the_house::{
@@ -17,6 +17,7 @@ pub struct Wanted {
     pub jump: bool,
     pub repeat: bool,
     pub given_up: u32,
+    pub begun: usize,
 }
 
 #[derive(Clone, Copy, Debug, PartialEq, Eq)]
@@ -37,6 +38,7 @@ struct Gathered {
     sections: Vec<Vec<u8>>,
     held: Vec<u8>,
     given_up: u32,
+    begun: usize,
 }
 
 pub fn packet_call(
@@ -71,6 +73,7 @@ pub fn packet_call(
         answer.sections = gathered.sections.len();
         answer.bytes = joined.len();
         answer.given_up = gathered.given_up;
+        answer.begun = gathered.begun;
     }
     Ok(Answer::Wanted(answer))
 }
@@ -170,10 +173,11 @@ fn end_section(gathered: &mut Gathered, held: Vec<u8>, old: &[u8]) {
     }
 }
 
-/// The bytes from the pointed place on: section follows section.
+/// The bytes from the pointed place on: section follows section, and each byte that is taken as a table_id counts.
 fn start_sections(gathered: &mut Gathered, new: &[u8]) {
     let mut at = 0;
     while at < new.len() && new[at] != 0xFF {
+        gathered.begun += 1;
         let rest = &new[at..];
         match start_of(rest) {
             Start::Whole(size) => {

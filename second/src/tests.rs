@@ -1,5 +1,6 @@
 //! The documents' examples, and what the commands promise.
 
+mod begun;
 mod commands;
 mod counts;
 mod driver;

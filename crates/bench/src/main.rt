@@ -66,6 +66,7 @@ fn tell_packets(l: Letters, text: &mut [u8]) -> usize {
     let end = told(text, end, b" sections ", sums.sections);
     let end = told(text, end, b" bytes ", sums.bytes);
     let end = told(text, end, b" sets ", sums.sets);
+    let end = told(text, end, b" begun ", sums.begun);
     text::byte(text, end, b'\n')
 }
 

@@ -10,6 +10,7 @@ pub(crate) struct Sums {
     pub(crate) sections: u64,
     pub(crate) bytes: u64,
     pub(crate) sets: u64,
+    pub(crate) begun: u64,
 }
 
 // What goes from packet to packet.
@@ -27,12 +28,14 @@ fn with_answer(sums: Sums, answer: Handling) -> Sums {
             sections: std::num::wrapping_add_u64(sums.sections, report.sections as u64),
             bytes: std::num::wrapping_add_u64(sums.bytes, report.bytes as u64),
             sets: std::num::wrapping_add_u64(sums.sets, report.places as u64),
+            begun: std::num::wrapping_add_u64(sums.begun, report.begun as u64),
         },
         _ => Sums {
             packets,
             sections: sums.sections,
             bytes: sums.bytes,
             sets: sums.sets,
+            begun: sums.begun,
         },
     }
 }
@@ -66,6 +69,7 @@ pub(crate) fn handed_in(state: State, share: u8, is_many: bool, rounds: u8) -> S
             sections: 0,
             bytes: 0,
             sets: 0,
+            begun: 0,
         },
     };
     let mut left = rounds;

@@ -8,7 +8,7 @@ use native.Mathlib.Nat.{mod-lt}
 use native.Mathlib.Omega.{arith}
 use borrow.Author.Tests.{ltb-false, leb-false, leb-true, eqb-true, not-true, not-false}
 use lib.Dec.{leb, eqb, ltb, lit<}
-use lib.ListN.{length, getD}
+use lib.ListN.{length}
 use Rattle.ground.specs.Answer.{refused, given}
 use Rattle.ground.specs.Refusal.{Silent}
 use Rattle.ground.proofs.Test.{neither}
@@ -16,13 +16,13 @@ use Rattle.ground.proofs.Judged.{judge-ind}
 use Rattle.packet.specs.Packet.{headerOf, contents}
 use Rattle.packet.specs.Payload.{payloadOf}
 use Rattle.packet.proofs.PayloadSize.{at-most-184}
-use Rattle.gather.specs.Memory.{heldOf, contradictsOf}
-use Rattle.state.specs.State.{areaOf, areaStart, freeArea, freePlaceOf, placeOf}
+use Rattle.gather.specs.Memory.{contradictsOf}
+use Rattle.state.specs.State.{areaOf, areaStart, freePlaceOf, placeOf}
 use Rattle.state.specs.declared.State.{State}
 use Rattle.sound.specs.Sound.{sound}
 use Rattle.open_call.specs.Open as opening
 use Rattle.close_call.specs.Close as closing
-use Rattle.packet_call.specs.Packet.{AfterPacket, asGiven, unwanted, pidOf, firstRefusals, lastRefusals, outcome, putBack, afterTests, afterReading, packetOf}
+use Rattle.packet_call.specs.Packet.{AfterPacket, asGiven, unwanted, pidOf, heldIn, firstRefusals, lastRefusals, outcome, putBack, afterTests, afterReading, packetOf}
 
 -- ---- open
 -- what an accepted open may rely on
@@ -82,7 +82,7 @@ pub record Handles (s : State) (p store out : List ℕ) : Type 0 where
   pub whole : length store ≡ 32768
   pub room : 4278 ≤ length out
   pub area : areaOf (pidOf p) (s .areas) < length (s .areas)
-  pub agrees : contradictsOf (heldOf (getD (s .areas) (areaOf (pidOf p) (s .areas)) freeArea .marks)) store (areaStart (areaOf (pidOf p) (s .areas))) ≡ false
+  pub agrees : contradictsOf (heldIn (areaOf (pidOf p) (s .areas)) s) store (areaStart (areaOf (pidOf p) (s .areas))) ≡ false
   pub short : length (payloadOf p) ≤ 184
   pub counter : contents p .counter ≤ 15
 
@@ -95,7 +95,7 @@ module _ (s : State) (p store out : List ℕ) (P : AfterPacket → Type 0) where
 
   pub packet-ind :
       ((n : ℕ) → (n ≡ 1 → sound s ≡ false)
-      → (n ≡ 9 → (own < length (s .areas)) × (contradictsOf (heldOf (getD (s .areas) own freeArea .marks)) store (areaStart own) ≡ true)) → P (asGiven s store out (refused n)))
+      → (n ≡ 9 → (own < length (s .areas)) × (contradictsOf (heldIn own s) store (areaStart own) ≡ true)) → P (asGiven s store out (refused n)))
       → (length (s .areas) ≤ own → P (asGiven s store out (given unwanted)))
       → (Handles s p store out → P (putBack s own (outcome s own p store) store out))
       → P (packetOf s p store out)

@@ -2,12 +2,14 @@
 -- Assumes nothing.
 use Rattle.driver.specs.Claims.{Claims}
 use Rattle.driver.proofs.Limits.{packet-limits}
+use Rattle.driver.proofs.Accounts.{packet-accounted}
 use Rattle.driver.proofs.StaysSound.{fresh-sound, open-sound, close-sound, packet-sound, packet-own-area}
 
 pub claims : Claims
 claims =
     record {
       limits = packet-limits;
+      accounted = packet-accounted;
       soundFresh = fresh-sound;
       soundOpen = open-sound;
       soundClose = close-sound;

@@ -1,5 +1,6 @@
 pub mod Cases
 pub mod StaysSound
 pub mod Limits
+pub mod Accounts
 pub mod Stars
 pub mod Claims

@@ -9,6 +9,7 @@ use Rattle.ground.specs.Answer.{given}
 use Rattle.ground.proofs.Answer.{given-apart, given-same}
 use Rattle.gather.specs.Memory.{stateOf}
 use Rattle.gather.proofs.RuleKeeps.{rule-keeps}
+use Rattle.gather.proofs.AddsUp.{begun-most}
 use Rattle.state.specs.State.{areaOf, areaStart, freeArea, placesOn}
 use Rattle.state.specs.declared.State.{State}
 use Rattle.packet_call.specs.Packet.{Said, AfterPacket, pidOf, packetFrom, outcome, report, unwanted, packetOf}
@@ -16,14 +17,15 @@ use Rattle.driver.specs.Claims.{Limits}
 use Rattle.driver.proofs.Cases.{Handles, packet-ind}
 
 nothing : Limits unwanted
-nothing = record { sections = omega arith; bytes = omega arith; givenUp = omega arith }
+nothing = record { sections = omega arith; bytes = omega arith; givenUp = omega arith; begun = omega arith }
 
 module _ (s : State) (p store out : List ℕ) where
   reported : Handles s p store out → Limits (report (outcome s (areaOf (pidOf p) (s .areas)) p store) (placesOn (areaOf (pidOf p) (s .areas)) (s .filters)))
   reported h =
       let i = areaOf (pidOf p) (s .areas) in
-      let kept = rule-keeps (stateOf (getD (s .areas) i freeArea .marks) store (areaStart i)) (packetFrom p) (h .agrees) in
-      record { sections = kept .count (h .short); bytes = kept .bytes (h .short); givenUp = kept .two }
+      let held = stateOf (getD (s .areas) i freeArea .marks) store (areaStart i) in
+      let kept = rule-keeps held (packetFrom p) (h .agrees) in
+      record { sections = kept .count (h .short); bytes = kept .bytes (h .short); givenUp = kept .two; begun = begun-most held (packetFrom p) (h .short) }
 
   pub packet-limits : (r : Said) → packetOf s p store out .answer ≡ given r → Limits r
   packet-limits =

@@ -1,19 +1,21 @@
 -- What is claimed of the calls together, and proved.
 use mathlib.Core.Path.{_≡_}
 use mathlib.Core.Bool.{true}
-use mathlib.Core.List.{List}
+use mathlib.Core.List.{List, []}
 use mathlib.Core.Logic.{_⊎_}
 use Prim.Native.Nat.{ℕ, _+_, _≤_}
 use lib.ListN.{length, getD}
 use Rattle.ground.specs.House.{areaBytes, leastOutput}
 use Rattle.ground.specs.Answer.{given}
+use Rattle.packet.specs.Payload.{payloadOf}
+use Rattle.gather.specs.Claims.Begun.{AddsUp}
 use Rattle.gather.specs.Memory.{stretch}
 use Rattle.state.specs.State.{areaStart, areaOf, freeArea, fresh}
 use Rattle.state.specs.declared.State.{State}
 use Rattle.sound.specs.Sound.{sound}
 use Rattle.open_call.specs.Open.{openOf}
 use Rattle.close_call.specs.Close.{closeOf}
-use Rattle.packet_call.specs.Packet.{Said, AfterPacket, pidOf, packetOf}
+use Rattle.packet_call.specs.Packet.{Said, AfterPacket, pidOf, heldIn, packetOf}
 
 -- nothing but area i of the state and of the store has changed
 pub record OnlyArea (i : ℕ) (s : State) (store : List ℕ) (o : AfterPacket) : Type 0 where
@@ -31,9 +33,21 @@ pub record Limits (r : Said) : Type 0 where
   pub bytes : r .bytes ≤ leastOutput
   -- "how many sections were given up (0 to 2)"
   pub givenUp : r .givenUp ≤ 2
+  -- "how many sections a packet call began": "it is at most 61"
+  pub begun : r .begun ≤ 61
+
+-- request 10 of document 02, "How many sections can one packet start?": what is said of a packet that is not refused adds up with how many bytes its PID's area held before the call and holds after it
+pub record Accounted (p : List ℕ) (r : Said) (before after : ℕ) : Type 0 where
+  pub addsUp : AddsUp (r .begun) before (r .sections) (r .givenUp) after
+  -- "This holds for repeats too, where all but the held terms are 0", and for packets without payload
+  pub none : (r .repeat ≡ true) ⊎ (payloadOf p ≡ []) → (r .begun ≡ 0) × (r .sections ≡ 0) × (r .givenUp ≡ 0) × (after ≡ before)
 
 pub record Claims : Type 0 where
   pub limits : (s : State) (p store out : List ℕ) (r : Said) → packetOf s p store out .answer ≡ given r → Limits r
+  -- sections begun are accounted for, whatever the state (it has 8 areas), the store and the output
+  pub accounted : (s : State) (p store out : List ℕ) → length (s .areas) ≡ 8 → (r : Said) → packetOf s p store out .answer ≡ given r
+      → let i = areaOf (pidOf p) (s .areas) in
+      Accounted p r (heldIn i s) (heldIn i (packetOf s p store out .state))
   -- a fresh state is sound, and a call leaves a sound state sound
   pub soundFresh : sound fresh ≡ true
   pub soundOpen : (s : State) (pid : ℕ) → sound s ≡ true → sound (openOf s pid .state) ≡ true

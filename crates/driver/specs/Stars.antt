@@ -47,7 +47,7 @@ Right lastByteHeld =
     (bytes store out : List ℕ) → length bytes ≡ 182 → length store ≡ storeBytes → leastOutput ≤ length out
     → packetOf zeroOpen (0x47 ∷ 0x40 ∷ 0x00 ∷ 0x10 ∷ 182 ∷ (bytes ++ 0x80 ∷ [])) store out
     ≡ record {
-      answer = given (record { wanted = true; sections = 0; bytes = 0; places = 1; jump = false; repeat = false; givenUp = 0 });
+      answer = given (record { wanted = true; sections = 0; bytes = 0; places = 1; jump = false; repeat = false; givenUp = 0; begun = 1 });
       state =
           record {
             areas = set (zeroOpen .areas) 0 (record { pid = record { 0 = 0 }; users = 1; marks = marksAs 1 1 0 0 });

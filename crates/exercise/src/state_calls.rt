@@ -206,6 +206,7 @@ fn wanted(report: Report, text: &mut [u8], at: usize) -> usize {
         outcome::yes(report.jump),
         outcome::yes(report.repeat),
         report.given_up as u64,
+        report.begun as u64,
     ];
     outcome::numbers(text, end, &row)
 }

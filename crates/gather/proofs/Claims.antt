@@ -22,6 +22,7 @@ use Rattle.gather.proofs.RuleKeeps.{rule-keeps, never-starts}
 use Rattle.gather.proofs.WholeSections.{rule-exact}
 use Rattle.gather.proofs.Spread.{gathers-whole}
 use Rattle.gather.proofs.OneRepeat.{one-repeat}
+use Rattle.gather.proofs.AddsUp.{begun-holds}
 use Rattle.gather.proofs.Cutting.{rule-cut}
 use Rattle.gather.proofs.Stored.{state-again}
 use Rattle.gather.proofs.Examples.{longest-is, stuck-is}
@@ -35,7 +36,7 @@ wholeTold o = leaves (toldGathering (o .0)) (o .1) (o .2)
 
 abbrev gatheringMade : Answer Result → Gathering
 gatheringMade (given r) =
-    gathering.Done (record { marks = r .marks; sections = r .sections; bytes = r .bytes; jump = r .jump; repeat = r .repeat; «given_up» = r .givenUp })
+    gathering.Done (record { marks = r .marks; sections = r .sections; bytes = r .bytes; jump = r .jump; repeat = r .repeat; «given_up» = r .givenUp; begun = r .begun })
 gatheringMade (refused n) = gathering.Refused n
 
 abbrev wholeMade : Leaves → Whole
@@ -76,6 +77,7 @@ claims =
       exactly = rule-exact;
       spread = gathers-whole;
       oneRepeat = one-repeat;
+      begun = begun-holds;
       cuts = rule-cut;
       again = state-again;
       longest = longest-is;

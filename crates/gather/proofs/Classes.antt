@@ -146,6 +146,13 @@ part-fits s e = let w = said-of s Part e in (w .0, room (length s) (sectionLengt
         go true e = let h = ltb-true size 3 e in omega arith
         go false e = let h = ltb-false size 3 e in let a = p h in let b = q h in omega arith
 
+pub part-some : (s : List ℕ) → classify s ≡ Part → isEmpty s ≡ false
+part-some s e = let some = part-fits s e .0 in ne-eqb (length s) 0 (λ z. omega arith)
+
+-- of one that is too long three bytes are there at least
+pub overlong-fits : (s : List ℕ) → classify s ≡ Overlong → 3 ≤ length s
+overlong-fits s e = said-of s Overlong e .0
+
 -- refusal 9 by kinds: bytes are held, and they are no part of a section
 pub contradicting-kind : (held : List ℕ) → contradicting held ≡ (not (isEmpty held) && not (isPart (classify held)))
 contradicting-kind [] = refl
@@ -178,7 +185,7 @@ held-kind held e = go (isEmpty held) refl (classify held) refl (sym (contradicti
     go false z (Whole n) c e = let o : _≡_ {A = ℕ} 0 1 = cc in absurd (omega arith)
 
 pub part-holds : (held : List ℕ) → classify held ≡ Part → contradicting held ≡ false
-part-holds held c = contradicting-kind held ∙ rw (ne-eqb (length held) 0 (let h = part-fits held c .0 in omega arith), c)
+part-holds held c = contradicting-kind held ∙ rw (part-some held c, c)
 
 -- "held bytes are 0 to 4,095": bytes that do not contradict themselves are no more
 pub held-fits : (held : List ℕ) → contradicting held ≡ false → length held ≤ 4095

@@ -1,6 +1,8 @@
 pub mod Classes
 pub mod Walk
 pub mod Adding
+pub mod Begun
+pub mod AddsUp
 pub mod Sized
 pub mod OnMemory
 pub mod RuleOnMemory

@@ -14,9 +14,9 @@ use Rattle.ground.proofs.Write.{put-put}
 use Rattle.ground.proofs.Part.{length-part, take-least, drop-least, take-joined, put-joined}
 use Rattle.gather.specs.declared.measure.Sizes.{Sizes}
 use Rattle.gather.specs.Kind.{join}
-use Rattle.gather.specs.Rule.{Yield, add, walk, started, together, ended, pointer, front, back}
+use Rattle.gather.specs.Rule.{Yield, unfinishedOf, add, walk, started, together, ended, pointer, front, back, begunIn}
 use Rattle.gather.specs.Memory.{stretch}
-use Rattle.gather.specs.Steps.{sizesOf, carried, carriedAs, unfinishedOf, Room}
+use Rattle.gather.specs.Steps.{sizesAs, sizesOf, carried, carriedAs, Room}
 use Rattle.gather.proofs.Walk.{walk-fine, walk-split, whole-count}
 use Rattle.gather.proofs.Adding.{add-fine, add-split, put-added}
 
@@ -29,7 +29,7 @@ pub record AddedFits (n m : ℕ) (z : Sizes) : Type 0 where
   pub few : 3 * z .sections ≤ z .bytes
   pub one : z .«given_up» ≤ 1
 
-pub added-fits : (held new : List ℕ) (n m : ℕ) (z : Sizes) → length held ≡ n → length new ≡ m → z ≡ sizesOf (add held new) → AddedFits n m z
+pub added-fits : (held new : List ℕ) (n m : ℕ) (z : Sizes) → length held ≡ n → length new ≡ m → z ≡ sizesOf 0 (add held new) → AddedFits n m z
 added-fits held new n m z k l e =
     let p = add-split held new in
     let q = add-fine held new in
@@ -47,8 +47,8 @@ pub record WalkedFits (m : ℕ) (z : Sizes) : Type 0 where
   pub few : 3 * z .sections ≤ z .bytes
   pub one : z .«given_up» ≤ 1
 
-pub walked-fits : (s : List ℕ) (z : Sizes) → z ≡ sizesOf (walk s) → WalkedFits (length s) z
-walked-fits s z e =
+pub walked-fits : (s : List ℕ) (begun : ℕ) (z : Sizes) → z ≡ sizesOf begun (walk s) → WalkedFits (length s) z
+walked-fits s begun z e =
     let q = walk-fine s in
     rw e (record { within = walk-split s .fits; few = whole-count (walk s .sections) (q .whole); one = omega (arith, q .one) })
 
@@ -64,15 +64,10 @@ pub join-append : (a b : List (List ℕ)) → join (a ++ b) ≡ join a ++ join b
 join-append [] b = refl
 join-append (s ∷ ss) b = ap (λ (l : List ℕ). s ++ l) (join-append ss b) ∙ sym (append-assoc s (join ss) (join b))
 
--- the sizes of two yields together, of which the first is ended
+-- the sizes of two yields together, of which the first is ended and the second begins sections
 abbrev pub sizesTogether : Sizes → Sizes → Sizes
 sizesTogether first rest =
-    record {
-      sections = first .sections + rest .sections;
-      bytes = first .bytes + rest .bytes;
-      held = rest .held;
-      «given_up» = first .«given_up» + unfinishedOf (first .held) + rest .«given_up»;
-    }
+    sizesAs (first .sections + rest .sections) (first .bytes + rest .bytes) (rest .held) (first .«given_up» + unfinishedOf (first .held) + rest .«given_up») (rest .begun)
 
 -- ---- the pointer's two parts, cut at the payload's end
 front-is : (p : List ℕ) → 0 < length p → stretch (min (1 + pointer p) (length p) - 1) p 1 ≡ front p
@@ -83,11 +78,11 @@ front-is (x ∷ xs) h =
 
 module _ (n : ℕ) (payload store : List ℕ) (base : ℕ) (out : List ℕ) (room : Room n payload store base out) where
   -- unit start 0
-  pub continued-carried : (z : Sizes) → z ≡ sizesOf (add (stretch n store base) (stretch (length payload) payload 0))
+  pub continued-carried : (z : Sizes) → z ≡ sizesOf 0 (add (stretch n store base) (stretch (length payload) payload 0))
       → carriedAs z (put store (base + n) (stretch (z .held - n) payload 0)) (put out 0 (take (z .bytes) (stretch n store base ++ drop 0 payload)))
-      ≡ carried (add (stretch n store base) payload) store base out
+      ≡ carried 0 (add (stretch n store base) payload) store base out
   continued-carried z e =
-      let z-is : z ≡ sizesOf (add (stretch n store base) payload) = rw (take-length payload) at e in
+      let z-is : z ≡ sizesOf 0 (add (stretch n store base) payload) = rw (take-length payload) at e in
       rw (z-is, put-added store base n payload (room .area) (room .bound), add-split (stretch n store base) payload .joined)
 
   -- unit start 1
@@ -98,13 +93,15 @@ module _ (n : ℕ) (payload store : List ℕ) (base : ℕ) (out : List ℕ) (roo
     rest : Yield
     rest = walk (drop from payload)
 
+    back-is : drop from payload ≡ back payload
+    back-is = rw cut (drop-least payload (1 + pointer payload))
+
     -- what the two parts give, cut at the payload's end
     shape : started (stretch n store base) payload ≡ together (ended first) rest
     unfolding started first rest
     shape =
         let f : stretch (from - 1) payload 1 ≡ front payload = rw cut (front-is payload some) in
-        let b : drop from payload ≡ back payload = rw cut (drop-least payload (1 + pointer payload)) in
-        rw (f, b)
+        rw (f, back-is)
 
     bytes-first : length (join (first .sections)) ≤ length (stretch n store base) + (from - 1)
     unfolding first
@@ -141,14 +138,15 @@ module _ (n : ℕ) (payload store : List ℕ) (base : ℕ) (out : List ℕ) (roo
         ∙ put-put out 0 (join (first .sections)) (omega (arith, fits)) (join (rest .sections)) (omega (arith, fits))
         ∙ ap (λ (l : List ℕ). put out 0 l) (sym (join-append (first .sections) (rest .sections))))
 
-    pub started-carried : (x y : Sizes) → x ≡ sizesOf (add (stretch n store base) (stretch (from - 1) payload 1)) → y ≡ sizesOf (walk (drop from payload))
+    pub started-carried : (x y : Sizes) → x ≡ sizesOf 0 (add (stretch n store base) (stretch (from - 1) payload 1))
+        → y ≡ sizesOf (begunIn (drop from payload)) (walk (drop from payload))
         → carriedAs (sizesTogether x y)
         (put store base (stretch (y .held) payload (from + y .bytes)))
         (put (put out 0 (take (x .bytes) (stretch n store base ++ drop 1 payload))) (x .bytes) (stretch (y .bytes) payload from))
-        ≡ carried (started (stretch n store base) payload) store base out
+        ≡ carried (begunIn (back payload)) (started (stretch n store base) payload) store base out
     started-carried x y p q =
-        let x-is : x ≡ sizesOf first = unfold first in p in
-        let y-is : y ≡ sizesOf rest = unfold rest in q in
+        let x-is : x ≡ sizesOf 0 first = unfold first in p in
+        let y-is : y ≡ sizesOf (begunIn (back payload)) rest = unfold rest in q ∙ ap (λ (s : List ℕ). sizesOf (begunIn s) (walk (drop from payload))) back-is in
         rw (
           x-is,
           y-is,

@@ -25,13 +25,13 @@ without s p h = rule-empty s p (eqb-true (length (p .payload)) 0 (not-false (eqb
 -- ---- the last counter once more
 module _ (held : List ℕ) (counter : ℕ) (p : Packet) (b : Brings counter p) where
   the-first : rule (record { held = held; last = seen counter false }) p
-      ≡ record { next = record { held = held; last = seen counter true }; sections = []; jump = false; repeat = true; givenUp = 0 }
+      ≡ record { next = record { held = held; last = seen counter true }; sections = []; jump = false; repeat = true; givenUp = 0; begun = 0 }
   the-first = rule-repeat (record { held = held; last = seen counter false }) p (some p (b .0)) (rw (eq-eqb (p .counter) counter (b .1)))
 
-  the-next : rule (record { held = held; last = seen counter true }) p ≡ taken true counter (unfinished held) (yield [] (p .start) (p .payload))
+  the-next : rule (record { held = held; last = seen counter true }) p ≡ taken true p (unfinished held) (yield [] (p .start) (p .payload))
   the-next =
       let same = eq-eqb (p .counter) counter (b .1) in
-      rule-taken (record { held = held; last = seen counter true }) p (some p (b .0)) (rw same) ∙ rw (same, b .1)
+      rule-taken (record { held = held; last = seen counter true }) p (some p (b .0)) (rw same) ∙ rw same
 
 -- which of the two is told, by the mark
 module _ (s : State) (p : Packet) (counter : ℕ) (b : Brings counter p) where
@@ -109,7 +109,7 @@ module _ (s : State) (p : Packet) where
   base-repeat e r = rw (not-true (eqb (length (p .payload)) 0) e, r)
 
   base-taken : hasPayload p ≡ true → isSame (s .last) (p .counter) ≡ false
-      → baseRule s p ≡ taken (skips (s .last) (p .counter)) (p .counter) (lost (skips (s .last) (p .counter)) (s .held))
+      → baseRule s p ≡ taken (skips (s .last) (p .counter)) p (lost (skips (s .last) (p .counter)) (s .held))
       (yield (kept (skips (s .last) (p .counter)) (s .held)) (p .start) (p .payload))
   unfolding baseRule
   base-taken e r = rw (not-true (eqb (length (p .payload)) 0) e, r)

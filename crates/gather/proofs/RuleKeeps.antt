@@ -30,7 +30,7 @@ module _ (s : State) (p : Packet) where
       → (length (p .payload) ≡ 0 → P (unchanged s))
       → ((length (p .payload) ≡ 0 → ⊥) → repeats (s .last) (p .counter) ≡ true → P (dropped s))
       → ((length (p .payload) ≡ 0 → ⊥) → repeats (s .last) (p .counter) ≡ false
-      → P (taken (jumps (s .last) (p .counter)) (p .counter) (lost (jumps (s .last) (p .counter)) (s .held))
+      → P (taken (jumps (s .last) (p .counter)) p (lost (jumps (s .last) (p .counter)) (s .held))
       (yield (kept (jumps (s .last) (p .counter)) (s .held)) (p .start) (p .payload))))
       → P (rule s p)
   rule-ind P none again on = empty (eqb (length (p .payload)) 0) refl
@@ -152,7 +152,7 @@ rule-keeps s p h = rule-ind s p (Keeps s p) (λ z. still (s .last) (λ k. k) (λ
   where
     still : (l : Last) → (counterOf (s .last) ≤ 15 → counterOf l ≤ 15)
         → (soundMarks (marksOf s) ≡ true → soundMarks (marksOf (record { held = s .held; last = l })) ≡ true) → (again : Bool)
-        → Keeps s p (record { next = record { held = s .held; last = l }; sections = []; jump = false; repeat = again; givenUp = 0 })
+        → Keeps s p (record { next = record { held = s .held; last = l }; sections = []; jump = false; repeat = again; givenUp = 0; begun = 0 })
     still l few sound again =
         record {
           whole = tt;
@@ -167,7 +167,7 @@ rule-keeps s p h = rule-ind s p (Keeps s p) (λ z. still (s .last) (λ k. k) (λ
         }
 
     on : (length (p .payload) ≡ 0 → ⊥) → repeats (s .last) (p .counter) ≡ false
-        → Keeps s p (taken (jumps (s .last) (p .counter)) (p .counter) (lost (jumps (s .last) (p .counter)) (s .held))
+        → Keeps s p (taken (jumps (s .last) (p .counter)) p (lost (jumps (s .last) (p .counter)) (s .held))
         (yield (kept (jumps (s .last) (p .counter)) (s .held)) (p .start) (p .payload)))
     on e r =
         let b = jumps (s .last) (p .counter) in
@@ -204,11 +204,11 @@ add-ends = add-ind (λ held new y. 0 < length (y .sections) → length (y .held)
 pub never-starts : (s : State) (p : Packet) → p .start ≡ false → Never s (rule s p)
 never-starts s p u = rule-ind s p (Never s) (λ z. still (s .last) false) (λ e r. still (marked (s .last)) true) on
   where
-    still : (l : Last) (again : Bool) → Never s (record { next = record { held = s .held; last = l }; sections = []; jump = false; repeat = again; givenUp = 0 })
+    still : (l : Last) (again : Bool) → Never s (record { next = record { held = s .held; last = l }; sections = []; jump = false; repeat = again; givenUp = 0; begun = 0 })
     still l again = record { none = λ z. (refl, z); ends = λ l. absurd (not-suc-le-zero l) }
 
     on : (length (p .payload) ≡ 0 → ⊥) → repeats (s .last) (p .counter) ≡ false
-        → Never s (taken (jumps (s .last) (p .counter)) (p .counter) (lost (jumps (s .last) (p .counter)) (s .held))
+        → Never s (taken (jumps (s .last) (p .counter)) p (lost (jumps (s .last) (p .counter)) (s .held))
         (yield (kept (jumps (s .last) (p .counter)) (s .held)) (p .start) (p .payload)))
     on e r =
         let held = kept (jumps (s .last) (p .counter)) (s .held) in

@@ -16,9 +16,9 @@ use Rattle.gather.specs.declared.Marks.{Marks}
 use Rattle.ground.specs.Answer.{given}
 use Rattle.gather.specs.declared.measure.Sizes.{Sizes}
 use Rattle.gather.specs.Kind.{classify}
-use Rattle.gather.specs.Rule.{Last, unseen, seen, Yield, State, Packet, started, yield, front, back, isSame, skips, isRepeated, repeats, jumps, unchanged, marked, dropped, kept, lost, taken, rule}
+use Rattle.gather.specs.Rule.{Last, unseen, seen, Yield, State, Packet, unfinishedOf, started, yield, front, back, begunBy, isSame, skips, isRepeated, repeats, jumps, unchanged, marked, dropped, kept, lost, taken, rule}
 use Rattle.gather.specs.Memory.{heldOf, soundMarks, lastOf, seenOf, counterOf, repeatedOf, marksOf, stateOf, stretch, toldGathered, leaves, onMemory, contradictsOf}
-use Rattle.gather.specs.Steps.{isPart, Carried, carried, carriedAs, originalOf, ungatheredOf, takenOf, unfinishedOf, Room}
+use Rattle.gather.specs.Steps.{isPart, Carried, carried, carriedAs, originalOf, ungatheredOf, takenOf, Room}
 use Rattle.gather.proofs.Classes.{contradicting-kind}
 use Rattle.gather.proofs.Walk.{walk-fine, walk-split}
 use Rattle.gather.proofs.Adding.{add-fine, add-split}
@@ -153,12 +153,12 @@ module _ (m : Marks) (store : List ℕ) (base : ℕ) (out : List ℕ) (s : sound
       rw (size, two .0, two .1, l .0, l .1, l .2, put-same store base (heldOf m) (omega (arith, w)), put-nil out 0)
 
 -- a packet that is taken answers the sizes of what it gives
-pub taken-on-memory : (y : Yield) (z : Sizes) (store′ out′ store : List ℕ) (base : ℕ) (out : List ℕ) (jump : Bool) (counter lost : ℕ)
-    → carriedAs z store′ out′ ≡ carried y store base out
-    → leaves (given (toldGathered (takenOf (originalOf (z .held) counter) jump (lost + z .«given_up») z))) store′ out′
-    ≡ onMemory (taken jump counter lost y) store base out
-taken-on-memory y z store′ out′ store base out jump counter lost e =
-    ap (λ (c : Carried). leaves (given (toldGathered (takenOf (originalOf (c .sizes .held) counter) jump (lost + c .sizes .«given_up») (c .sizes)))) (c .store) (c .out)) e
+pub taken-on-memory : (y : Yield) (z : Sizes) (store′ out′ store : List ℕ) (base : ℕ) (out : List ℕ) (jump : Bool) (p : Packet) (lost : ℕ)
+    → carriedAs z store′ out′ ≡ carried (begunBy (p .start) (p .payload)) y store base out
+    → leaves (given (toldGathered (takenOf (originalOf (z .held) (p .counter)) jump (lost + z .«given_up») z))) store′ out′
+    ≡ onMemory (taken jump p lost y) store base out
+taken-on-memory y z store′ out′ store base out jump p lost e =
+    ap (λ (c : Carried). leaves (given (toldGathered (takenOf (originalOf (c .sizes .held) (p .counter)) jump (lost + c .sizes .«given_up») (c .sizes)))) (c .store) (c .out)) e
 
 -- ---- which of them the rule takes
 module _ (s : State) (p : Packet) where
@@ -171,7 +171,7 @@ module _ (s : State) (p : Packet) where
   rule-repeat e r = rw (ne-eqb (length (p .payload)) 0 e, r)
 
   pub rule-taken : (length (p .payload) ≡ 0 → ⊥) → repeats (s .last) (p .counter) ≡ false
-      → rule s p ≡ taken (jumps (s .last) (p .counter)) (p .counter) (lost (jumps (s .last) (p .counter)) (s .held))
+      → rule s p ≡ taken (jumps (s .last) (p .counter)) p (lost (jumps (s .last) (p .counter)) (s .held))
       (yield (kept (jumps (s .last) (p .counter)) (s .held)) (p .start) (p .payload))
   unfolding rule
   rule-taken e r = rw (ne-eqb (length (p .payload)) 0 e, r)
@@ -250,14 +250,14 @@ module _ (m : Marks) (counter : ℕ) (start : Bool) (payload store : List ℕ) (
 
   pub taken-whole : (length payload ≡ 0 → ⊥) → repeats (lastOf m) counter ≡ false
       → (jump : Bool) (held gave : ℕ) → jump ≡ jumps (lastOf m) counter → held ≡ cond jump 0 (heldOf m) → gave ≡ cond jump (unfinishedOf (heldOf m)) 0
-      → (z : Sizes) (store′ out′ : List ℕ) → carriedAs z store′ out′ ≡ carried (yield (stretch held store base) start payload) store base out
+      → (z : Sizes) (store′ out′ : List ℕ) → carriedAs z store′ out′ ≡ carried (begunBy start payload) (yield (stretch held store base) start payload) store base out
       → leaves (given (toldGathered (takenOf (originalOf (z .held) counter) jump (gave + z .«given_up») z))) store′ out′
       ≡ onMemory (rule (stateOf m store base) (record { counter = counter; start = start; payload = payload })) store base out
   taken-whole e r jump held gave j h g z store′ out′ c =
       let size : length (stretch (heldOf m) store base) ≡ heldOf m = length-part (heldOf m) store base (omega (arith, room)) in
       let lost-is : gave ≡ lost jump (stretch (heldOf m) store base) = rw size g in
       let kept-is : stretch held store base ≡ kept jump (stretch (heldOf m) store base) = rw h (kept-part jump (heldOf m) store base) in
-      taken-on-memory (yield (stretch held store base) start payload) z store′ out′ store base out jump counter gave c
+      taken-on-memory (yield (stretch held store base) start payload) z store′ out′ store base out jump p gave c
       ∙ rw (lost-is, kept-is, j, rule-taken s p e r)
 
 -- ---- refusal 9, as the code tests it

@@ -31,11 +31,15 @@ next-new l = rw (ne-eqb ((l + 1) % 16) l (next-differs l))
 next-step : (l : ℕ) → jumps (seen l false) ((l + 1) % 16) ≡ false
 next-step l = rw (ne-eqb ((l + 1) % 16) l (next-differs l), eq-eqb ((l + 1) % 16) ((l + 1) % 16) refl)
 
--- a packet in step without unit start adds its payload
+-- a packet in step without unit start
+abbrev onward : ℕ → List ℕ → Packet
+onward l b = record { counter = (l + 1) % 16; start = false; payload = b }
+
+-- it adds its payload
 pub rule-step : (held : List ℕ) (l : ℕ) (b : List ℕ) → Some b
-    → rule (record { held = held; last = seen l false }) (record { counter = (l + 1) % 16; start = false; payload = b }) ≡ taken false ((l + 1) % 16) 0 (add held b)
+    → rule (record { held = held; last = seen l false }) (onward l b) ≡ taken false (onward l b) 0 (add held b)
 rule-step held l b n =
-    rw (next-step l) at (rule-taken (record { held = held; last = seen l false }) (record { counter = (l + 1) % 16; start = false; payload = b }) (λ z. omega arith) (next-new l))
+    rw (next-step l) at (rule-taken (record { held = held; last = seen l false }) (onward l b) (λ z. omega arith) (next-new l))
 
 -- the bytes of a whole section before its end are a part of it
 pub prefix-part : (a b : List ℕ) → IsWhole (a ++ b) → Some a → Some b → classify a ≡ Part
@@ -52,12 +56,12 @@ started-part held a e = rw (walk-kind a Part e)
 abbrev goOn : Outcome → List Packet → Ran
 goOn o ps =
     let r = run (o .next) ps in
-    record { next = r .next; sections = o .sections ++ r .sections; givenUp = o .givenUp + r .givenUp }
+    record { next = r .next; sections = o .sections ++ r .sections; givenUp = o .givenUp + r .givenUp; begun = o .begun + r .begun }
 
 run-step : (held : List ℕ) (l : ℕ) (b : List ℕ) (rest : List (List ℕ)) (y : Yield) → Some b → add held b ≡ y
-    → run (record { held = held; last = seen l false }) (following l (b ∷ rest)) ≡ goOn (taken false ((l + 1) % 16) 0 y) (following ((l + 1) % 16) rest)
+    → run (record { held = held; last = seen l false }) (following l (b ∷ rest)) ≡ goOn (taken false (onward l b) 0 y) (following ((l + 1) % 16) rest)
 run-step held l b rest y n e =
-    ap (λ (o : Outcome). goOn o (following ((l + 1) % 16) rest)) (rule-step held l b n ∙ ap (λ (z : Yield). taken false ((l + 1) % 16) 0 z) e)
+    ap (λ (o : Outcome). goOn o (following ((l + 1) % 16) rest)) (rule-step held l b n ∙ ap (λ (z : Yield). taken false (onward l b) 0 z) e)
 
 -- a section gathered whole: it alone is finished, none is given up and nothing is held
 pub record Whole-of (s : List ℕ) (r : Ran) : Type 0 where
@@ -99,7 +103,8 @@ gathers-whole s counter a bs c tail h r p e end w =
     let b = jumps (s .last) counter in
     let held = kept b (s .held) in
     let rest = following counter (bs ++ (c ++ tail) ∷ []) in
-    ap (λ (o : Outcome). goOn o rest .sections) (rule-taken s (record { counter = counter; start = true; payload = 0 ∷ a }) (λ z. omega arith) r)
-    ∙ ap (λ (y : Yield). goOn (taken b counter (lost b (s .held)) y) rest .sections) (started-part held a (prefix-part a (join bs ++ c) w p more))
+    let first : Packet = record { counter = counter; start = true; payload = 0 ∷ a } in
+    ap (λ (o : Outcome). goOn o rest .sections) (rule-taken s first (λ z. omega arith) r)
+    ∙ ap (λ (y : Yield). goOn (taken b first (lost b (s .held)) y) rest .sections) (started-part held a (prefix-part a (join bs ++ c) w p more))
     ∙ ap (λ (l : List (List ℕ)). (l ++ []) ++ run (record { held = a; last = seen counter false }) rest .sections) (add-alone held (kept-fine b (s .held) h))
     ∙ gathers c tail end bs a counter p e w .sections

@@ -7,7 +7,6 @@ use Prim.Native.Nat.{ℕ, _+_, _*_, _≤_, _<_}
 use native.Mathlib.Omega.{arith}
 use lib.ListN.{length, take, drop, length-drop, length-append}
 use lib.Seq.{drop-drop, length-take-le, take-length, take-add}
-use borrow.Author.Tests.{ne-eqb}
 use Rattle.ground.specs.Items.{Step, onward, items}
 use Rattle.ground.specs.Walk.{Every}
 use Rattle.ground.proofs.Items.{items-end, items-ind, on-items}
@@ -17,7 +16,7 @@ use Rattle.gather.specs.declared.kind.Kind.the-variants.{Nothing, Part, 
 use Rattle.gather.specs.Kind.{classify, contradicting, join}
 use Rattle.gather.specs.Rule.{Yield, nothing, unfinished, _then_, firstSection, first, walk}
 use Rattle.gather.specs.Claims.{IsWhole}
-use Rattle.gather.proofs.Classes.{kind-empty, whole-fits, whole-again, part-fits, part-holds}
+use Rattle.gather.proofs.Classes.{kind-empty, whole-fits, whole-again, part-some, part-holds}
 
 -- what holds of some bytes and what they give, by the kind of the first: one rule a kind
 pub record Turns (P : List ℕ → Yield → Type 0) : Type 0 where
@@ -82,7 +81,7 @@ none-fine = record { whole = tt; part = refl; one = omega arith }
 pub first-fine : (s : List ℕ) (k : Kind) (rest : Yield) → classify s ≡ k → Fine rest → Fine (first k s rest)
 first-fine s Nothing rest e f = none-fine
 first-fine s Part rest e f =
-    record { whole = tt; part = part-holds s e; one = rw (ne-eqb (length s) 0 (let p = part-fits s e .0 in omega arith)) (omega arith) }
+    record { whole = tt; part = part-holds s e; one = rw (part-some s e) (omega arith) }
 first-fine s Overlong rest e f = record { whole = tt; part = refl; one = omega arith }
 first-fine s (Whole n) rest e f = record { whole = (whole-taken s n e, f .whole); part = f .part; one = f .one }
 

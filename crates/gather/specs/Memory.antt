@@ -77,10 +77,11 @@ pub record Result : Type 0 where
   pub jump : Bool
   pub repeat : Bool
   pub givenUp : ℕ
+  pub begun : ℕ
 
 abbrev pub toldGathered : Gathered → Result
 toldGathered g =
-    record { marks = g .marks; sections = g .sections; bytes = g .bytes; jump = g .jump; repeat = g .repeat; givenUp = g .«given_up» }
+    record { marks = g .marks; sections = g .sections; bytes = g .bytes; jump = g .jump; repeat = g .repeat; givenUp = g .«given_up»; begun = g .begun }
 
 abbrev pub toldGathering : Gathering → Answer Result
 toldGathering (gathering.Done g) = given (toldGathered g)
@@ -98,7 +99,15 @@ leaves answer store out = record { answer = answer; store = store; out = out }
 -- the numbers of an outcome of the rule
 abbrev pub resultOf : Outcome → Result
 resultOf o =
-    record { marks = marksOf (o .next); sections = length (o .sections); bytes = length (join (o .sections)); jump = o .jump; repeat = o .repeat; givenUp = o .givenUp }
+    record {
+      marks = marksOf (o .next);
+      sections = length (o .sections);
+      bytes = length (join (o .sections));
+      jump = o .jump;
+      repeat = o .repeat;
+      givenUp = o .givenUp;
+      begun = o .begun;
+    }
 
 -- an outcome of the rule on memory: what is held stands from its area's first byte on, "finished sections stand joined at the start of the output", and every other byte is as before
 abbrev pub onMemory : Outcome → List ℕ → ℕ → List ℕ → Leaves

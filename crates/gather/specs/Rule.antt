@@ -1,4 +1,4 @@
--- Document 01, "From payload to sections", with request 3 of document 02, "One repeat, not many": the rule alone, over an area's held bytes, its last counter, and whether that one's repeat was seen.
+-- Document 01, "From payload to sections", with requests 3 and 10 of document 02, "One repeat, not many" and "How many sections can one packet start?": the rule alone, over an area's held bytes, its last counter, and whether that one's repeat was seen.
 use mathlib.Core.Bool.{Bool, true, false, cond, not, _&&_, _||_}
 use mathlib.Core.List.{List, [], _∷_, _++_}
 use Prim.Native.Nat.{ℕ, _+_, _%_}
@@ -35,21 +35,25 @@ pub record Yield : Type 0 where
   pub held : List ℕ
   pub givenUp : ℕ
 
--- what a packet does: the area's next state, the finished sections, jump, repeat, and how many sections were given up
+-- what a packet does: the area's next state, the finished sections, jump, repeat, how many sections were given up, and how many were begun
 pub record Outcome : Type 0 where
   pub next : State
   pub sections : List (List ℕ)
   pub jump : Bool
   pub repeat : Bool
   pub givenUp : ℕ
+  pub begun : ℕ
 
 -- bytes of which nothing comes
 abbrev pub nothing : Yield
 nothing = record { sections = []; held = []; givenUp = 0 }
 
--- held bytes are one unfinished section; no bytes are none
+-- so many held bytes are one unfinished section; no bytes are none
+abbrev pub unfinishedOf : ℕ → ℕ
+unfinishedOf held = cond (eqb held 0) 0 1
+
 abbrev pub unfinished : List ℕ → ℕ
-unfinished held = cond (isEmpty held) 0 1
+unfinished held = unfinishedOf (length held)
 
 infixr 20 _then_
 -- a section and what comes after it
@@ -103,6 +107,21 @@ started held payload = together (ended (add held (front payload))) (walk (back p
 abbrev pub yield : List ℕ → Bool → List ℕ → Yield
 yield held start payload = cond start (started held payload) (add held payload)
 
+-- how many sections begin with what stands first in some bytes, by their kind: one, whether it ends there, is held or is given up; none where the bytes end or 0xFF stands, which is not taken as a table_id
+abbrev pub firstBegun : Kind → Step ℕ ℕ
+firstBegun Nothing = ends 0
+firstBegun Part = ends 1
+firstBegun Overlong = ends 1
+firstBegun (Whole n) = takes n 1
+
+-- "how many times a byte was taken as a table_id" in some bytes, section after section
+unfoldable pub begunIn : List ℕ → ℕ
+begunIn s = items _+_ (λ rest. firstBegun (classify rest)) 0 s
+
+-- "how many sections a packet call began": those that start in the bytes after the p bytes; the p bytes and unit start 0 begin none
+abbrev pub begunBy : Bool → List ℕ → ℕ
+begunBy start payload = cond start (begunIn (back payload)) 0
+
 -- "the same counter as the area's last"
 abbrev pub isSame : Last → ℕ → Bool
 isSame unseen counter = false
@@ -128,7 +147,7 @@ jumps l counter = (isSame l counter && isRepeated l) || skips l counter
 
 -- "A packet without payload changes nothing and gets no mark"
 abbrev pub unchanged : State → Outcome
-unchanged s = record { next = s; sections = []; jump = false; repeat = false; givenUp = 0 }
+unchanged s = record { next = s; sections = []; jump = false; repeat = false; givenUp = 0; begun = 0 }
 
 -- "The area remembers whether it has seen the repeat"
 abbrev pub marked : Last → Last
@@ -137,7 +156,7 @@ marked (seen l repeated) = seen l true
 
 -- a repeat "is dropped, reported as such", and changes no more than that mark
 abbrev pub dropped : State → Outcome
-dropped s = record { next = record { held = s .held; last = marked (s .last) }; sections = []; jump = false; repeat = true; givenUp = 0 }
+dropped s = record { next = record { held = s .held; last = marked (s .last) }; sections = []; jump = false; repeat = true; givenUp = 0; begun = 0 }
 
 -- after a jump "held bytes are given up"
 abbrev pub kept : Bool → List ℕ → List ℕ
@@ -148,16 +167,23 @@ abbrev pub lost : Bool → List ℕ → ℕ
 lost jump held = cond jump (unfinished held) 0
 
 -- "Every packet not dropped sets the last counter", and its repeat was not seen yet: it "counts as an original"
-abbrev pub taken : Bool → ℕ → ℕ → Yield → Outcome
-taken jump counter lost y =
-    record { next = record { held = y .held; last = seen counter false }; sections = y .sections; jump = jump; repeat = false; givenUp = lost + y .givenUp }
+abbrev pub taken : Bool → Packet → ℕ → Yield → Outcome
+taken jump p lost y =
+    record {
+      next = record { held = y .held; last = seen (p .counter) false };
+      sections = y .sections;
+      jump = jump;
+      repeat = false;
+      givenUp = lost + y .givenUp;
+      begun = begunBy (p .start) (p .payload);
+    }
 
 -- the rule
 unfoldable pub rule : State → Packet → Outcome
 rule s p =
     cond (isEmpty (p .payload)) (unchanged s)
     (cond (repeats (s .last) (p .counter)) (dropped s)
-    (taken (jumps (s .last) (p .counter)) (p .counter) (lost (jumps (s .last) (p .counter)) (s .held))
+    (taken (jumps (s .last) (p .counter)) p (lost (jumps (s .last) (p .counter)) (s .held))
     (yield (kept (jumps (s .last) (p .counter)) (s .held)) (p .start) (p .payload))))
 
 -- refusal 11: a payload with unit start whose pointer p leaves no byte for a section, p + 1 not below the payload's size

@@ -28,7 +28,7 @@ Right pointer-182 =
     (counter : ℕ) (bytes : List ℕ) → length bytes ≡ 182
     → (leavesNone true (182 ∷ (bytes ++ 0x80 ∷ [])) ≡ false)
     × (rule blank (record { counter = counter; start = true; payload = 182 ∷ (bytes ++ 0x80 ∷ []) })
-    ≡ record { next = record { held = 0x80 ∷ []; last = seen counter false }; sections = []; jump = false; repeat = false; givenUp = 0 })
+    ≡ record { next = record { held = 0x80 ∷ []; last = seen counter false }; sections = []; jump = false; repeat = false; givenUp = 0; begun = 1 })
 -- the same on memory: one byte of the store is written, the area's first, and none of the output
 Right pointer-182-stored =
     (counter : ℕ) (bytes store : List ℕ) (base : ℕ) (out : List ℕ) → counter ≤ 15 → length bytes ≡ 182 → base + areaBytes ≤ length store → leastOutput ≤ length out
@@ -41,6 +41,7 @@ Right pointer-182-stored =
       jump = false;
       repeat = false;
       givenUp = 0;
+      begun = 1;
     }))
     (put store base (0x80 ∷ []))
     out

@@ -13,10 +13,10 @@ ghost use mathlib.Core.Path.{_≡_};
 ghost use mathlib.Core.Bool.{true, cond};
 ghost use Prim.Native.Nat.{_≤_};
 ghost use Rattle.ground.specs.Answer.{given};
-ghost use Rattle.gather.specs.Rule.{isSame, skips, rule};
+ghost use Rattle.gather.specs.Rule.{unfinishedOf, isSame, skips, rule};
 ghost use Rattle.gather.specs.Memory.{heldOf, soundMarks, lastOf, stateOf, toldGathered, leaves, onMemory};
 ghost use Rattle.gather.specs.Promises.{TellsSound, TellsHeld, TellsContradiction, TellsNoneLeft, Gathers};
-ghost use Rattle.gather.specs.Steps.{unfinishedOf, ungatheredOf, takenOf, Room};
+ghost use Rattle.gather.specs.Steps.{ungatheredOf, takenOf, Room};
 
 // "Areas: 8, each 4,096 bytes".
 pub const AREA_BYTES: usize = 4096;
@@ -36,11 +36,12 @@ pub struct Marks {
     pub repeated: u8,
 }
 
-// What a packet did: the area's marks after it, the finished sections and their bytes, jump, repeat, and how many sections were given up.
+// What a packet did: the area's marks after it, the finished sections and their bytes, how many sections were begun, jump, repeat, and how many were given up.
 pub struct Gathered {
     pub marks: Marks,
     pub sections: usize,
     pub bytes: usize,
+    pub begun: usize,
     pub jump: bool,
     pub repeat: bool,
     pub given_up: u8,
@@ -136,6 +137,7 @@ fn ungathered(marks: Marks, repeated: u8, repeat: bool) -> Gathered
         marks: next,
         sections: 0,
         bytes: 0,
+        begun: 0,
         jump: false,
         repeat,
         given_up: 0,
@@ -150,6 +152,7 @@ fn taken(marks: Marks, jump: bool, given_up: u8, sizes: Sizes) -> Gathered
         marks,
         sections: sizes.sections,
         bytes: sizes.bytes,
+        begun: sizes.begun,
         jump,
         repeat: false,
         given_up,

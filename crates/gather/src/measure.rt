@@ -8,27 +8,29 @@ ghost use mathlib.Core.List.{_++_};
 ghost use Prim.Native.Nat.{_≤_, _+_};
 ghost use lib.ListN.{length, drop, getD};
 ghost use Rattle.gather.specs.Kind.{classify};
-ghost use Rattle.gather.specs.Rule.{walk, add};
+ghost use Rattle.gather.specs.Rule.{walk, add, begunIn};
 ghost use Rattle.gather.specs.Memory.{stretch};
 ghost use Rattle.gather.specs.Steps.{sizesAs, sizesOf};
 
-// The sizes of what some bytes give.
+// The sizes of what some bytes give, and how many sections they begin.
 pub struct Sizes {
     pub sections: usize,
     pub bytes: usize,
     pub held: usize,
     pub given_up: u8,
+    pub begun: usize,
 }
 
 impl Sizes {
-    fn new(sections: usize, bytes: usize, held: usize, given_up: u8) -> Self
-        ensures { λ r. ⌜ r ≡ sizesAs sections bytes held «given_up» ⌝ }
+    fn new(sections: usize, bytes: usize, held: usize, given_up: u8, begun: usize) -> Self
+        ensures { λ r. ⌜ r ≡ sizesAs sections bytes held «given_up» begun ⌝ }
     {
         Sizes {
             sections,
             bytes,
             held,
             given_up,
+            begun,
         }
     }
 }
@@ -73,7 +75,7 @@ pub(crate) fn joined_kind(
     kind_of(first, length_of(second, third), held + count)
 }
 
-// What `count` bytes of the payload, added to the held ones, give.
+// What `count` bytes of the payload, added to the held ones, give: they begin no section.
 pub(crate) fn added(
     held: usize,
     store: &[u8],
@@ -83,24 +85,24 @@ pub(crate) fn added(
     count: usize,
 ) -> Sizes
     requires { ⌜ (base + held ≤ length (now store)) × (from + count ≤ length (now payload)) ⌝ }
-    ensures { λ r. ⌜ r ≡ sizesOf (add (stretch held (now (store .entry)) base) (stretch count (now (payload .entry)) from)) ⌝ }
+    ensures { λ r. ⌜ r ≡ sizesOf 0 (add (stretch held (now (store .entry)) base) (stretch count (now (payload .entry)) from)) ⌝ }
 {
     if held == 0 {
-        return Sizes::new(0, 0, 0, 0);
+        return Sizes::new(0, 0, 0, 0, 0);
     }
     let kind = joined_kind(held, store, base, payload, from, count);
     match kind {
-        Kind::Nothing => Sizes::new(0, 0, 0, 0),
-        Kind::Part => Sizes::new(0, 0, held + count, 0),
-        Kind::Overlong => Sizes::new(0, 0, 0, 1),
-        Kind::Whole(n) => Sizes::new(1, n, 0, 0),
+        Kind::Nothing => Sizes::new(0, 0, 0, 0, 0),
+        Kind::Part => Sizes::new(0, 0, held + count, 0, 0),
+        Kind::Overlong => Sizes::new(0, 0, 0, 1, 0),
+        Kind::Whole(n) => Sizes::new(1, n, 0, 0, 0),
     }
 }
 
 // What the bytes of the payload from `from` on give.
 pub(crate) fn walk(payload: &[u8], from: usize) -> Sizes
     requires { ⌜ from ≤ length (now payload) ⌝ }
-    ensures { λ r. ⌜ r ≡ sizesOf (walk (drop from (now (payload .entry)))) ⌝ }
+    ensures { λ r. ⌜ r ≡ sizesOf (begunIn (drop from (now (payload .entry)))) (walk (drop from (now (payload .entry)))) ⌝ }
 {
     let mut sections: usize = 0;
     let mut bytes: usize = 0;
@@ -108,9 +110,9 @@ pub(crate) fn walk(payload: &[u8], from: usize) -> Sizes
         let left = payload.len() - (from + bytes);
         let kind = kind_at(payload, from + bytes);
         match kind {
-            Kind::Nothing => return Sizes::new(sections, bytes, 0, 0),
-            Kind::Part => return Sizes::new(sections, bytes, left, 0),
-            Kind::Overlong => return Sizes::new(sections, bytes, 0, 1),
+            Kind::Nothing => return Sizes::new(sections, bytes, 0, 0, sections),
+            Kind::Part => return Sizes::new(sections, bytes, left, 0, sections + 1),
+            Kind::Overlong => return Sizes::new(sections, bytes, 0, 1, sections + 1),
             Kind::Whole(n) => {
                 sections += 1;
                 bytes += n;

@@ -8,9 +8,9 @@ ghost use mathlib.Core.List.{_++_};
 ghost use Prim.Native.Nat.{_≤_, _<_, _+_, _-_};
 ghost use lib.ListN.{length, take, drop};
 ghost use Rattle.ground.specs.Write.{put};
-ghost use Rattle.gather.specs.Rule.{add, started, yield};
+ghost use Rattle.gather.specs.Rule.{unfinishedOf, add, started, yield, back, begunIn, begunBy};
 ghost use Rattle.gather.specs.Memory.{stretch};
-ghost use Rattle.gather.specs.Steps.{carried, carriedAs, unfinishedOf, Room};
+ghost use Rattle.gather.specs.Steps.{carried, carriedAs, Room};
 
 // The difference, or 0.
 fn less(a: usize, b: usize) -> usize
@@ -56,7 +56,7 @@ fn finish(
 fn continued(held: usize, payload: &[u8], store: &mut [u8], base: usize, out: &mut [u8]) -> Sizes
     requires { ⌜ Room held (now payload) (now store) base (now out) ⌝ }
     ensures { λ r. ⌜ carriedAs r (now (store .exit)) (now (out .exit))
-        ≡ carried (add (stretch held (now (store .entry)) base) (now (payload .entry))) (now (store .entry)) base (now (out .entry)) ⌝ }
+        ≡ carried 0 (add (stretch held (now (store .entry)) base) (now (payload .entry))) (now (store .entry)) base (now (out .entry)) ⌝ }
 {
     let sizes = added(held, store, base, payload, 0, payload.len());
     finish(sizes.bytes, held, store, base, payload, 0, out);
@@ -79,7 +79,7 @@ fn started(held: usize, payload: &[u8], store: &mut [u8], base: usize, out: &mut
     requires { ⌜ Room held (now payload) (now store) base (now out) ⌝ }
     requires { ⌜ 0 < length (now payload) ⌝ }
     ensures { λ r. ⌜ carriedAs r (now (store .exit)) (now (out .exit))
-        ≡ carried (started (stretch held (now (store .entry)) base) (now (payload .entry))) (now (store .entry)) base (now (out .entry)) ⌝ }
+        ≡ carried (begunIn (back (now (payload .entry)))) (started (stretch held (now (store .entry)) base) (now (payload .entry))) (now (store .entry)) base (now (out .entry)) ⌝ }
 {
     let from = lesser(1 + payload[0] as usize, payload.len());
     let first = added(held, store, base, payload, 1, from - 1);
@@ -92,6 +92,7 @@ fn started(held: usize, payload: &[u8], store: &mut [u8], base: usize, out: &mut
         bytes: first.bytes + rest.bytes,
         held: rest.held,
         given_up: first.given_up + unfinished(first.held) + rest.given_up,
+        begun: rest.begun,
     }
 }
 
@@ -107,7 +108,7 @@ pub(crate) fn gathered(
     requires { ⌜ Room held (now payload) (now store) base (now out) ⌝ }
     requires { ⌜ 0 < length (now payload) ⌝ }
     ensures { λ r. ⌜ carriedAs r (now (store .exit)) (now (out .exit))
-        ≡ carried (yield (stretch held (now (store .entry)) base) start (now (payload .entry))) (now (store .entry)) base (now (out .entry)) ⌝ }
+        ≡ carried (begunBy start (now (payload .entry))) (yield (stretch held (now (store .entry)) base) start (now (payload .entry))) (now (store .entry)) base (now (out .entry)) ⌝ }
 {
     if start {
         return started(held, payload, store, base, out);

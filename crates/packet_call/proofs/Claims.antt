@@ -26,7 +26,15 @@ abbrev handlingMade : Answer Said → Handling
 handlingMade (refused n) = handling.Refused n
 handlingMade (given r) =
     cond (r .wanted)
-    (handling.Wanted (record { sections = r .sections; bytes = r .bytes; places = r .places; jump = r .jump; repeat = r .repeat; «given_up» = r .givenUp }))
+    (handling.Wanted (record {
+      sections = r .sections;
+      bytes = r .bytes;
+      places = r .places;
+      jump = r .jump;
+      repeat = r .repeat;
+      «given_up» = r .givenUp;
+      begun = r .begun;
+    }))
     handling.NotWanted
 
 handling-back : (a : Handling) → handlingMade (toldHandling a) ≡ a

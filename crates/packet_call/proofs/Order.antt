@@ -6,7 +6,7 @@ use mathlib.Core.List.{List}
 use Prim.Native.Nat.{ℕ, _≤_, _<_}
 use borrow.Author.Tests.{le-leb, lt-leb, ltb-false, eq-eqb, ne-eqb, eqb-true, not-false}
 use lib.Dec.{eqb, ltb}
-use lib.ListN.{length, getD}
+use lib.ListN.{length}
 use Rattle.ground.specs.Answer.{refused, given}
 use Rattle.ground.specs.Refusal.{Silent}
 use Rattle.ground.proofs.Judged.{refused-by}
@@ -15,11 +15,11 @@ use Rattle.ground.proofs.Test.{neither}
 use Rattle.packet.specs.Packet.{contents, readPacket, packetRefusals}
 use Rattle.packet.specs.Payload.{payloadOf}
 use Rattle.gather.specs.Rule.{leavesNone}
-use Rattle.gather.specs.Memory.{heldOf, contradictsOf}
-use Rattle.state.specs.State.{areaOf, areaStart, freeArea}
+use Rattle.gather.specs.Memory.{contradictsOf}
+use Rattle.state.specs.State.{areaOf, areaStart}
 use Rattle.state.specs.declared.State.{State}
 use Rattle.sound.specs.Sound.{sound}
-use Rattle.packet_call.specs.Packet.{packetOf, asGiven, unwanted, isWrongSize, pidOf, outcome, putBack, afterReading, afterTests}
+use Rattle.packet_call.specs.Packet.{packetOf, asGiven, unwanted, isWrongSize, pidOf, heldIn, outcome, putBack, afterReading, afterTests}
 
 module _ (s : State) (p store out : List ℕ) where
   pub packet-unsound : sound s ≡ false → packetOf s p store out ≡ asGiven s store out (refused 1)
@@ -52,12 +52,12 @@ module _ (s : State) (i : ℕ) (p store out : List ℕ) where
 -- the last three tests of a wanted packet
 module _ (s : State) (i : ℕ) (p store out : List ℕ) where
   abbrev contradicts : Bool
-  contradicts = contradictsOf (heldOf (getD (s .areas) i freeArea .marks)) store (areaStart i)
+  contradicts = contradictsOf (heldIn i s) store (areaStart i)
 
   abbrev scrambling : ℕ
   scrambling = contents p .scrambling
 
-  pub contradicts-told : {n : ℕ} {r : Bool} → n ≡ heldOf (getD (s .areas) i freeArea .marks) → r ≡ contradictsOf n store (areaStart i) → contradicts ≡ r
+  pub contradicts-told : {n : ℕ} {r : Bool} → n ≡ heldIn i s → r ≡ contradictsOf n store (areaStart i) → contradicts ≡ r
   contradicts-told h e = ap (λ (n : ℕ). contradictsOf n store (areaStart i)) (sym h) ∙ sym e
 
   pub tests-contradict : contradicts ≡ true → afterTests s i p store out ≡ asGiven s store out (refused 9)

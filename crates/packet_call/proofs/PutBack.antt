@@ -36,7 +36,16 @@ abbrev handedOn : State → ℕ → ℕ → Result → List ℕ → List ℕ →
 handedOn s i places g store out =
     record {
       answer =
-          given (record { wanted = true; sections = g .sections; bytes = g .bytes; places = places; jump = g .jump; repeat = g .repeat; givenUp = g .givenUp });
+          given (record {
+            wanted = true;
+            sections = g .sections;
+            bytes = g .bytes;
+            places = places;
+            jump = g .jump;
+            repeat = g .repeat;
+            givenUp = g .givenUp;
+            begun = g .begun;
+          });
       state =
           record {
             areas = set (s .areas) i (record { pid = getD (s .areas) i freeArea .pid; users = getD (s .areas) i freeArea .users; marks = g .marks });

@@ -22,7 +22,7 @@ use Rattle.packet_call.specs.declared.Handled.{Handled}
 use Rattle.packet_call.specs.declared.Handling.{Handling}
 use Rattle.packet_call.specs.declared.Handling.the-variants as handling
 
--- what the packet call says in document 01's terms: whether the packet is wanted, and "their number (at most 61), their bytes, the set of filter places on the PID as 32 bits, jump, repeat, and how many sections were given up (0 to 2)"
+-- what the packet call says in document 01's terms: whether the packet is wanted, and "their number (at most 61), their bytes, the set of filter places on the PID as 32 bits, jump, repeat, and how many sections were given up (0 to 2)"; with request 10 of document 02 also "how many sections a packet call began"
 pub record Said : Type 0 where
   pub wanted : Bool
   pub sections : ℕ
@@ -31,14 +31,24 @@ pub record Said : Type 0 where
   pub jump : Bool
   pub repeat : Bool
   pub givenUp : ℕ
+  pub begun : ℕ
 
 -- "not wanted": "counts, marks and set 0"
 abbrev pub unwanted : Said
-unwanted = record { wanted = false; sections = 0; bytes = 0; places = 0; jump = false; repeat = false; givenUp = 0 }
+unwanted = record { wanted = false; sections = 0; bytes = 0; places = 0; jump = false; repeat = false; givenUp = 0; begun = 0 }
 
 abbrev pub toldReport : Report → Said
 toldReport r =
-    record { wanted = true; sections = r .sections; bytes = r .bytes; places = r .places; jump = r .jump; repeat = r .repeat; givenUp = r .«given_up» }
+    record {
+      wanted = true;
+      sections = r .sections;
+      bytes = r .bytes;
+      places = r .places;
+      jump = r .jump;
+      repeat = r .repeat;
+      givenUp = r .«given_up»;
+      begun = r .begun;
+    }
 
 abbrev pub toldHandling : Handling → Answer Said
 toldHandling (handling.Wanted r) = given (toldReport r)
@@ -72,10 +82,14 @@ isWrongSize store out = not (eqb (length store) storeBytes) || ltb (length out) 
 abbrev pub firstRefusals : State → List ℕ → List ℕ → List ℕ → List Row
 firstRefusals s p store out = (1 when not (sound s)) ∷ (3 when isWrongSize store out) ∷ packetRefusals p
 
+-- how many bytes area i holds
+abbrev pub heldIn : ℕ → State → ℕ
+heldIn i s = heldOf (getD (s .areas) i freeArea .marks)
+
 -- "then 9, 10, 11", for the PID's area i
 abbrev pub lastRefusals : State → ℕ → List ℕ → List ℕ → List Row
 lastRefusals s i p store =
-    (9 when contradictsOf (heldOf (getD (s .areas) i freeArea .marks)) store (areaStart i))
+    (9 when contradictsOf (heldIn i s) store (areaStart i))
     ∷ (10 when not (eqb (contents p .scrambling) 0))
     ∷ (11 when leavesNone (contents p .unitStart) (payloadOf p))
     ∷ []
@@ -100,6 +114,7 @@ report o places =
       jump = o .jump;
       repeat = o .repeat;
       givenUp = o .givenUp;
+      begun = o .begun;
     }
 
 -- the rule's outcome put back: the area's marks, its held bytes, and the sections joined at the start of the output

@@ -23,10 +23,11 @@ use state::State;
 use state::area_of;
 use state::places_on;
 
-// What a wanted packet brought: how many sections, their bytes, the set of filter places on the PID, jump, repeat, and how many sections were given up.
+// What a wanted packet brought: how many sections and their bytes, how many sections were begun, the set of filter places on the PID, jump, repeat, and how many sections were given up.
 pub struct Report {
     pub sections: usize,
     pub bytes: usize,
+    pub begun: usize,
     pub places: u32,
     pub jump: bool,
     pub repeat: bool,
@@ -123,6 +124,7 @@ fn gathered(
                 answer: Handling::Wanted(Report {
                     sections: g.sections,
                     bytes: g.bytes,
+                    begun: g.begun,
                     places: places_on(filters, i as u8),
                     jump: g.jump,
                     repeat: g.repeat,

@@ -11,4 +11,5 @@ pub mod Alone
 pub mod Idle
 pub mod InOrder
 pub mod Demand
+pub mod Accounts
 pub mod Wrong

@@ -2,13 +2,13 @@
 -- Assumes nothing.
 use mathlib.Core.Path.{_≡_, refl, sym, ap}
 use mathlib.Core.Bool.{false≢true}
-use mathlib.Core.List.{List, [], _∷_}
+use mathlib.Core.List.{List, [], _∷_, _++_}
 use Prim.Native.Nat.{ℕ}
 use native.Mathlib.Omega.{arith}
 use lib.Dec.{lit<}
 use lib.ListN.{getD, replicate, length-replicate}
 use Rattle.ground.specs.Write.{put}
-use Rattle.gather.specs.Rule.{rule, walk, add, started}
+use Rattle.gather.specs.Rule.{rule, walk, add, started, begunIn}
 use Rattle.gather.specs.Kind.{classify, kindOf}
 use Rattle.open_call.specs.Open.{openOf}
 use Rattle.close_call.specs.Close.{closeOf}
@@ -17,7 +17,7 @@ use Rattle.sound.specs.Sound.{sound}
 use Rattle.runs.specs.Run.{Driver, Call, openCall, closeCall, packetCall}
 use Rattle.runs.specs.History.{isAccepted, remembered}
 use Rattle.runs.specs.Demand.{DemandThree, Statement}
-use Rattle.runs.specs.Wrong.{freePlaceTold, closedPlaceTold, otherAreaWritten, jumpInvented, sectionsInvented, restFeigned, otherAreaSpoilt, repeatForgotten, packetsDropped, opensRefused, packetsRefused, freedAtFirstClose, usersInvented, numberGivenAgain, Excluded}
+use Rattle.runs.specs.Wrong.{freePlaceTold, closedPlaceTold, otherAreaWritten, jumpInvented, sectionsInvented, finishedToldAsBegun, restFeigned, otherAreaSpoilt, repeatForgotten, packetsDropped, opensRefused, packetsRefused, freedAtFirstClose, usersInvented, numberGivenAgain, Excluded}
 
 -- a store that is not all zero
 abbrev full : List ℕ
@@ -59,6 +59,17 @@ sections-invented : Statement sectionsInvented → ⊥
 unfolding openOf closeOf packetOf sound put rule walk add started classify kindOf remembered
 sections-invented s =
     let count : _≡_ {A = ℕ} 1 2 = ap (λ (r : Said). r .sections) (demanded sectionsInvented s (openCall 0 ∷ []) .whole two lent _ _ refl refl .0) in
+    omega arith
+
+-- a packet of PID 0 whose last byte is taken as a table_id
+abbrev last : List ℕ
+last = 0x47 ∷ 0x40 ∷ 0x00 ∷ 0x10 ∷ 0xB6 ∷ replicate 182 0xFF ++ 0x80 ∷ []
+
+-- a section is begun, and none is finished
+finished-told-as-begun : Statement finishedToldAsBegun → ⊥
+unfolding openOf closeOf packetOf sound put rule walk add started begunIn classify kindOf remembered
+finished-told-as-begun s =
+    let count : _≡_ {A = ℕ} 0 1 = ap (λ (r : Said). r .begun) (demanded finishedToldAsBegun s (openCall 0 ∷ []) .whole last lent _ _ refl refl .0) in
     omega arith
 
 -- the second section's table_id is missing
@@ -118,10 +129,13 @@ excluded = (
         (
           sections-invented,
           (
-            rest-feigned,
+            finished-told-as-begun,
             (
-              other-area-spoilt,
-              (repeat-forgotten, (packets-dropped, (opens-refused, (packets-refused, (freed-at-first-close, (users-invented, (number-given-again, tt))))))),
+              rest-feigned,
+              (
+                other-area-spoilt,
+                (repeat-forgotten, (packets-dropped, (opens-refused, (packets-refused, (freed-at-first-close, (users-invented, (number-given-again, tt))))))),
+              ),
             ),
           ),
         ),

@@ -98,7 +98,7 @@ pub record DemandThree (d : Driver) (store : List ℕ) (calls : List Call) : Typ
   -- of each accepted packet: a place is in the set exactly if a filter that is open on the packet's PID stands there; nobody else is told
   pub set : (p lent out : List ℕ) (r : Said) → event d (worldAfter d store calls) (packetCall p lent) ≡ packetEvent p lent (given r) out → r .wanted ≡ true
       → (place : ℕ) → isIn place (r .places) ≡ isOpenOn (pidOf p) place (history d store calls)
-  -- of each accepted packet: sections, bytes, jump, repeat and given up are those of demand 2's rule after the accepted packets of its PID since the area was taken,
+  -- of each accepted packet: sections, bytes, jump, repeat, given up and begun are those of demand 2's rule after the accepted packets of its PID since the area was taken,
   -- and every byte of the output is the sections joined and then what was lent
   pub whole : (p lent out : List ℕ) (r : Said) → event d (worldAfter d store calls) (packetCall p lent) ≡ packetEvent p lent (given r) out → r .wanted ≡ true
       → (r ≡ report (outcomeAfter (history d store calls) p) (r .places)) × (out ≡ written (outcomeAfter (history d store calls) p) lent)

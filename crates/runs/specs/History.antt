@@ -128,12 +128,20 @@ areasTaken (closed number ∷ h) = areasTaken h - cond (isLast (openingOf number
 areasTaken (packet p lent r out ∷ h) = areasTaken h
 
 -- ---- packets
--- the accepted packets of a PID since its area was taken, last first: an open takes the area where as many of the PID's opens as closes were accepted before it
+-- what is made of each accepted packet of a PID since its area was taken, last first: an open takes the area where as many of the PID's opens as closes were accepted before it
+abbrev pub sinceTaken : {A : Type 0} → (List ℕ → Said → A) → ℕ → List AcceptedCall → List A
+sinceTaken made pid [] = []
+sinceTaken made pid (opened f ∷ h) = cond (eqb (f .pid) pid && eqb (opens pid h) (closes pid h)) [] (sinceTaken made pid h)
+sinceTaken made pid (closed number ∷ h) = sinceTaken made pid h
+sinceTaken made pid (packet p lent r out ∷ h) = cond (eqb (pidOf p) pid) (made p r ∷ sinceTaken made pid h) (sinceTaken made pid h)
+
+-- the accepted packets of a PID since its area was taken
 abbrev pub packets : ℕ → List AcceptedCall → List Packet
-packets pid [] = []
-packets pid (opened f ∷ h) = cond (eqb (f .pid) pid && eqb (opens pid h) (closes pid h)) [] (packets pid h)
-packets pid (closed number ∷ h) = packets pid h
-packets pid (packet p lent r out ∷ h) = cond (eqb (pidOf p) pid) (packetFrom p ∷ packets pid h) (packets pid h)
+packets pid h = sinceTaken (λ p r. packetFrom p) pid h
+
+-- and what was said of them
+abbrev pub reports : ℕ → List AcceptedCall → List Said
+reports pid h = sinceTaken (λ p r. r) pid h
 
 -- how many accepted packets of its PID came since a filter's open
 abbrev pub since : OpenedFilter → List AcceptedCall → ℕ

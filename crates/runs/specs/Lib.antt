@@ -2,5 +2,6 @@ pub mod Run
 pub mod History
 pub mod Answers
 pub mod Demand
+pub mod Accounts
 pub mod Wrong
 pub mod Promises

@@ -41,15 +41,19 @@ retold tell a = record { answer = toldAs tell (a .answer); state = a .state; sto
 
 abbrev pub toldPlaces : ℕ → Said → Said
 toldPlaces places r =
-    record { wanted = r .wanted; sections = r .sections; bytes = r .bytes; places = places; jump = r .jump; repeat = r .repeat; givenUp = r .givenUp }
+    record { wanted = r .wanted; sections = r .sections; bytes = r .bytes; places = places; jump = r .jump; repeat = r .repeat; givenUp = r .givenUp; begun = r .begun }
 
 abbrev pub toldSections : ℕ → Said → Said
 toldSections sections r =
-    record { wanted = r .wanted; sections = sections; bytes = r .bytes; places = r .places; jump = r .jump; repeat = r .repeat; givenUp = r .givenUp }
+    record { wanted = r .wanted; sections = sections; bytes = r .bytes; places = r .places; jump = r .jump; repeat = r .repeat; givenUp = r .givenUp; begun = r .begun }
 
 abbrev pub toldJump : Said → Said
 toldJump r =
-    record { wanted = r .wanted; sections = r .sections; bytes = r .bytes; places = r .places; jump = true; repeat = r .repeat; givenUp = r .givenUp }
+    record { wanted = r .wanted; sections = r .sections; bytes = r .bytes; places = r .places; jump = true; repeat = r .repeat; givenUp = r .givenUp; begun = r .begun }
+
+abbrev pub toldBegun : (Said → ℕ) → Said → Said
+toldBegun begun r =
+    record { wanted = r .wanted; sections = r .sections; bytes = r .bytes; places = r .places; jump = r .jump; repeat = r .repeat; givenUp = r .givenUp; begun = begun r }
 
 -- other bytes of the output are written after a packet
 abbrev pub rewritten : (AfterPacket → List ℕ) → AfterPacket → AfterPacket
@@ -86,6 +90,10 @@ jumpInvented = withPacket (λ s p store out. retold toldJump (packetOf s p store
 -- section counts are invented
 abbrev pub sectionsInvented : Driver
 sectionsInvented = withPacket (λ s p store out. retold (toldSections 1) (packetOf s p store out))
+
+-- the finished sections are told as those that were begun, so that one that is held is not counted
+abbrev pub finishedToldAsBegun : Driver
+finishedToldAsBegun = withPacket (λ s p store out. retold (toldBegun (λ r. r .sections)) (packetOf s p store out))
 
 -- the first section of a packet is gathered, and the bytes of the others are feigned
 abbrev pub restFeigned : Driver
@@ -155,6 +163,7 @@ wrong =
     ∷ otherAreaWritten
     ∷ jumpInvented
     ∷ sectionsInvented
+    ∷ finishedToldAsBegun
     ∷ restFeigned
     ∷ otherAreaSpoilt
     ∷ repeatForgotten

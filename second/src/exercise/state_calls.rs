@@ -78,13 +78,14 @@ fn packet_answer(answer: Answer) -> String {
     match answer {
         Answer::Unwanted => String::from("unwanted"),
         Answer::Wanted(wanted) => format!(
-            "wanted {} {} {} {} {} {}",
+            "wanted {} {} {} {} {} {} {}",
             wanted.sections,
             wanted.bytes,
             wanted.set,
             u8::from(wanted.jump),
             u8::from(wanted.repeat),
-            wanted.given_up
+            wanted.given_up,
+            wanted.begun
         ),
     }
 }

@@ -17,6 +17,9 @@ pub fn payload_room(random: &mut Random) -> usize {
 
 /// Exactly that many bytes from a place where a table_id should stand.
 fn sections_filling(random: &mut Random, room: usize) -> Vec<u8> {
+    if random.one_in(8) {
+        return shortest_filling(random, room);
+    }
     let style = random.below(9);
     let mut bytes = Vec::new();
     let most = random.pick(&[0, 1, 2, 5, 61]);
@@ -37,6 +40,22 @@ fn sections_filling(random: &mut Random, room: usize) -> Vec<u8> {
     while bytes.len() < room {
         bytes.push(random.byte());
     }
+    bytes
+}
+
+/// Sections of three bytes, as many as can begin, of which the last may be whole, a part, too long or none.
+fn shortest_filling(random: &mut Random, room: usize) -> Vec<u8> {
+    let mut bytes = Vec::new();
+    while bytes.len() + 3 < room {
+        bytes.extend(section(random, 3));
+    }
+    let length = random.pick(&[0, 0, 1, 2, 4_093, 4_094, 4_095]);
+    let mut end = section_head(random, length);
+    if random.one_in(5) {
+        end[0] = 0xFF;
+    }
+    let left = room - bytes.len();
+    bytes.extend(&end[..left]);
     bytes
 }
 

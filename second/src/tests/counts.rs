@@ -17,7 +17,7 @@ fn repeated_and_stuck(outcomes: &[String]) -> (u64, u64) {
     (counts.get("repeated"), counts.get("stuck"))
 }
 
-const JUMP: &str = "packet wanted 0 0 1 1 0 1 store - output -";
+const JUMP: &str = "packet wanted 0 0 1 1 0 1 0 store - output -";
 
 #[test]
 fn a_stuck_counter_is_counted() {
@@ -48,6 +48,25 @@ fn other_jumps_are_not_stuck() {
     assert_eq!(repeated_and_stuck(&lines), (0, 0));
     let other = jump("0 1 5 0").replace("area 1 1 1 0 0 0 0", "area 1 1 1 0 1 0 0");
     assert_eq!(repeated_and_stuck(&[marked.clone(), other]), (1, 0));
-    let original = jump("0 1 5 0").replace(JUMP, "packet wanted 0 0 1 0 0 0 store - output -");
+    let original = jump("0 1 5 0").replace(JUMP, "packet wanted 0 0 1 0 0 0 0 store - output -");
     assert_eq!(repeated_and_stuck(&[marked, original]), (1, 0));
+}
+
+#[test]
+fn sections_begun_are_counted() {
+    let cases = [
+        ("61 183 1 0 0 0 61", [1, 0, 0]),
+        ("60 180 1 0 0 0 61", [1, 1, 0]),
+        ("60 180 1 0 0 0 60", [0, 0, 0]),
+        ("0 0 1 0 0 0 1", [0, 0, 1]),
+        ("0 0 1 0 0 1 1", [0, 0, 1]),
+        ("0 0 1 0 0 0 0", [0, 0, 0]),
+        ("1 4 1 0 0 0 2", [0, 0, 0]),
+    ];
+    for (told, expected) in cases {
+        let mut counts = Counts::default();
+        counts.outcome(&format!("packet wanted {} store - output - next 1", told));
+        let found = ["begun61", "part61", "begun"].map(|mark| counts.get(mark));
+        assert_eq!(found, expected, "{}", told);
+    }
 }

@@ -8,6 +8,9 @@ use crate::state::State;
 /// Sections, bytes, jump, repeat and given up.
 pub type Told = (usize, usize, bool, bool, u32);
 
+/// Begun, finished, given up, held before, held after.
+pub type Counted = (usize, usize, u32, u16, u16);
+
 /// The answer where nothing is told, and that of a repeat.
 pub const QUIET: Told = (0, 0, false, false, 0);
 pub const REPEAT: Told = (0, 0, false, true, 0);
@@ -44,7 +47,20 @@ impl Driver {
                 jump,
                 repeat,
                 given_up,
+                ..
             })) => (sections, bytes, jump, repeat, given_up),
+            other => panic!("{:?}", other),
+        }
+    }
+
+    /// Sections begun, finished and given up by a wanted packet, and how many bytes are held before and after it.
+    pub fn counted(&mut self, packet: &[u8]) -> Counted {
+        let before = self.held();
+        match self.call(packet) {
+            Ok(Answer::Wanted(told)) => {
+                let after = self.held();
+                (told.begun, told.sections, told.given_up, before, after)
+            }
             other => panic!("{:?}", other),
         }
     }

@@ -31,6 +31,14 @@ fn request_03_as_a_script() {
     );
 }
 
+#[test]
+fn request_10_as_a_script() {
+    answered(
+        include_str!("../../examples/request-10.script"),
+        include_str!("../../examples/request-10.expected"),
+    );
+}
+
 const MALFORMED: [&str; 34] = [
     "",
     " ",

@@ -7,9 +7,9 @@ use mathlib.Core.Path.{_≡_, sym, _∙_, ap}
 use Rattle.ground.specs.Answer.{given}
 use native.Mathlib.Omega.{arith}
 use lib.Dec.{eqb}
-use Rattle.gather.specs.Steps.{Carried, unfinishedOf}
+use Rattle.gather.specs.Steps.{Carried}
 use Rattle.gather.specs.Memory.{lastOf, stretch, stateOf, toldGathered, leaves, onMemory}
-use Rattle.gather.specs.Rule.{State, Packet, Outcome, repeats, jumps}
+use Rattle.gather.specs.Rule.{State, Packet, Outcome, unfinishedOf, repeats, jumps}
 use Rattle.gather.specs.declared.Marks.{Marks}
 use Rattle.gather.specs.declared.Gathered.{Gathered}
 use Rattle.gather.proofs.RuleOnMemory.{repeats-is, jumps-is, unchanged-on-memory, dropped-on-memory, rule-empty, rule-repeat, taken-whole, lost-le, yield-two, yield-short}

@@ -35,14 +35,14 @@ pub record StuckShows : Type 0 where
 -- ---- document 01's rule: the mark is not looked at and not set
 -- a repeat "is dropped, reported as such"
 abbrev pub baseDropped : State → Outcome
-baseDropped s = record { next = s; sections = []; jump = false; repeat = true; givenUp = 0 }
+baseDropped s = record { next = s; sections = []; jump = false; repeat = true; givenUp = 0; begun = 0 }
 
 -- "the same counter as the area's last is a repeat and is dropped"; "A counter that is neither the same nor the next modulo 16 is a jump"
 unfoldable pub baseRule : State → Packet → Outcome
 baseRule s p =
     cond (isEmpty (p .payload)) (unchanged s)
     (cond (isSame (s .last) (p .counter)) (baseDropped s)
-    (taken (skips (s .last) (p .counter)) (p .counter) (lost (skips (s .last) (p .counter)) (s .held))
+    (taken (skips (s .last) (p .counter)) p (lost (skips (s .last) (p .counter)) (s .held))
     (yield (kept (skips (s .last) (p .counter)) (s .held)) (p .start) (p .payload))))
 
 -- ---- what has not changed
@@ -69,9 +69,10 @@ unmarked (seen l repeated) = seen l false
 abbrev pub withoutMark : State → State
 withoutMark s = record { held = s .held; last = unmarked (s .last) }
 
--- all of an outcome but the mark: the sections, the held bytes, the last counter, jump, repeat, and how many sections were given up
+-- all of an outcome but the mark: the sections, the held bytes, the last counter, jump, repeat, and how many sections were given up and begun
 abbrev pub butTheMark : Outcome → Outcome
-butTheMark o = record { next = withoutMark (o .next); sections = o .sections; jump = o .jump; repeat = o .repeat; givenUp = o .givenUp }
+butTheMark o =
+    record { next = withoutMark (o .next); sections = o .sections; jump = o .jump; repeat = o .repeat; givenUp = o .givenUp; begun = o .begun }
 
 -- where no counter comes three times in a row, packets without payload left out, each outcome from a blank area on is that of document 01's rule
 abbrev pub NothingElse : Type 0
@@ -84,10 +85,10 @@ pub record OneRepeatHolds : Type 0 where
   -- "only the first such packet after an original is a repeat": it is told as such, and no more than the mark changes
   pub theFirst : (held : List ℕ) (counter : ℕ) (p : Packet) → Brings counter p
       → rule (record { held = held; last = seen counter false }) p
-      ≡ record { next = record { held = held; last = seen counter true }; sections = []; jump = false; repeat = true; givenUp = 0 }
+      ≡ record { next = record { held = held; last = seen counter true }; sections = []; jump = false; repeat = true; givenUp = 0; begun = 0 }
   -- "the next is a jump and counts as an original, its payload gathered as after any jump": held bytes are given up, and nothing is held before its payload
   pub theNext : (held : List ℕ) (counter : ℕ) (p : Packet) → Brings counter p
-      → rule (record { held = held; last = seen counter true }) p ≡ taken true counter (unfinished held) (yield [] (p .start) (p .payload))
+      → rule (record { held = held; last = seen counter true }) p ≡ taken true p (unfinished held) (yield [] (p .start) (p .payload))
   -- after a repeat the next packet is none, whatever its counter
   pub once : (s : State) (p q : Packet) → rule s p .repeat ≡ true → rule (rule s p .next) q .repeat ≡ false
   -- jump and repeat are never both told

@@ -7,9 +7,10 @@ use Rattle.runs.proofs.demand_three.Tie as tie
 use Rattle.runs.proofs.Demand as demand
 use Rattle.runs.proofs.InOrder.{in-order}
 use Rattle.runs.proofs.Wrong.{excluded}
+use Rattle.runs.proofs.Accounts.{accounts}
 
 returns : tie.Need-returns
-returns c = (refl, record { holds = demand.statement; inOrder = in-order ours; excluded = excluded })
+returns c = (refl, record { holds = demand.statement; inOrder = in-order ours; excluded = excluded; accounts = accounts })
 
 pub demand-three-spec : {M : Type 1} → statement M
 demand-three-spec = tie.close (tie.spec returns)

@@ -1,10 +1,9 @@
 -- `walk` goes from section to section: what was passed and what the rest gives are together what all gives, and each whole section takes bytes from the rest.
 -- Assumes nothing.
 use denote.Ref.{now}
-use Rattle.gather.proofs.Sized.{grown, ends-nothing, ends-part, ends-overlong, grows}
-use Rattle.gather.proofs.Classes.{WholeFits, whole-fits}
-use Rattle.gather.specs.Steps.{sizesOf}
-use Rattle.gather.specs.Rule.{walk}
+use Rattle.gather.proofs.Sized.{walked, grown, ends-nothing, ends-part, ends-overlong, grows}
+use Rattle.gather.proofs.Classes.{WholeFits, whole-fits, part-fits, overlong-fits}
+use Rattle.gather.specs.Rule.{walk, begunIn}
 use Rattle.gather.specs.Kind.{classify, join}
 use Rattle.gather.specs.declared.kind.Kind.{Kind}
 use Rattle.gather.specs.declared.kind.Kind.the-variants.{Nothing, Part, Overlong, Whole}
@@ -21,7 +20,7 @@ use Rattle.gather.proofs.measure.walk.Tie as tie
 abbrev Inv-loop : tie.InvT-loop
 Inv-loop payload from sections₀ bytes₀ sections bytes =
     (from + bytes ≤ length payload) × (sections ≤ bytes)
-    × (sizesOf (walk (drop from payload)) ≡ grown sections bytes (sizesOf (walk (drop (from + bytes) payload))))
+    × (walked (drop from payload) ≡ grown sections bytes (walked (drop (from + bytes) payload)))
 
 abbrev μ-loop : tie.MeasureT-loop
 μ-loop payload from sections₀ bytes₀ sections bytes = length payload - bytes
@@ -33,6 +32,9 @@ module _ (m : tie.After-kind-at Inv-loop μ-loop) where
 
   abbrev left : List ℕ
   left = drop (start .args .from + m .before .loop .bytes) (now (start .args .payload))
+
+  size : length left ≡ length (now (start .args .payload)) - (start .args .from + m .before .loop .bytes)
+  size = length-drop (start .args .from + m .before .loop .bytes) (now (start .args .payload))
 
   is : (k : Kind) → m .kind-at .result ≡ k → classify left ≡ k
   is k e = sym (m .kind-at .ensures) ∙ e
@@ -51,16 +53,13 @@ module _ (c : tie.After-known-told Inv-loop μ-loop) where
   fits : WholeFits (left here) k
   fits = whole-fits (left here) k told
 
-  size : length (left here) ≡ length (now (start here .args .payload)) - (start here .args .from + here .before .loop .bytes)
-  size = length-drop (start here .args .from + here .before .loop .bytes) (now (start here .args .payload))
-
 loop-holds : tie.Need-loop-holds Inv-loop μ-loop
 loop-holds c =
     let a = c .before .args in
     let s = drop (a .from) (now (a .payload)) in (
       search needs,
       search needs,
-      rw (add-zero (a .from), zero-add (length (walk s .sections)), zero-add (length (join (walk s .sections)))),
+      rw (add-zero (a .from), zero-add (length (walk s .sections)), zero-add (length (join (walk s .sections))), zero-add (begunIn s)),
     )
 
 add-left : tie.Need-add-left Inv-loop μ-loop
@@ -90,6 +89,12 @@ returns c =
 enum-told-2 : tie.Need-enum-told-2 Inv-loop μ-loop
 enum-told-2 c = search needs
 
+add-new : tie.Need-add-new Inv-loop μ-loop
+add-new c =
+    let m = c .before .before in
+    let some = part-fits (left m) (is m Part (c .enum-told2 .given .1)) .0 in
+    omega (arith, some, size m, m .before .loop .inv, start m .good)
+
 new-requires-2 : tie.Need-new-requires-2 Inv-loop μ-loop
 new-requires-2 c κs = search needs
 
@@ -104,6 +109,12 @@ returns-2 c =
 enum-told-3 : tie.Need-enum-told-3 Inv-loop μ-loop
 enum-told-3 c = search needs
 
+add-new-2 : tie.Need-add-new-2 Inv-loop μ-loop
+add-new-2 c =
+    let m = c .before .before in
+    let three = overlong-fits (left m) (is m Overlong (c .enum-told3 .given .1)) in
+    omega (arith, three, size m, m .before .loop .inv, start m .good)
+
 new-requires-3 : tie.Need-new-requires-3 Inv-loop μ-loop
 new-requires-3 c κs = search needs
 
@@ -117,20 +128,20 @@ enum-known-kind : tie.Need-enum-known-kind Inv-loop μ-loop
 enum-known-kind c = search needs
 
 add-sections : tie.Need-add-sections Inv-loop μ-loop
-add-sections c = let w = fits c in omega (arith, w .least, w .within, size c, here c .before .loop .inv, start (here c) .good)
+add-sections c = let w = fits c in omega (arith, w .least, w .within, size (here c), here c .before .loop .inv, start (here c) .good)
 
 add-bytes : tie.Need-add-bytes Inv-loop μ-loop
-add-bytes c = let w = fits c in omega (arith, w .least, w .within, size c, here c .before .loop .inv, start (here c) .good)
+add-bytes c = let w = fits c in omega (arith, w .least, w .within, size (here c), here c .before .loop .inv, start (here c) .good)
 
 loop-less : tie.Need-loop-less Inv-loop μ-loop
-loop-less c = let w = fits c in omega (arith, w .least, w .within, size c, here c .before .loop .inv)
+loop-less c = let w = fits c in omega (arith, w .least, w .within, size (here c), here c .before .loop .inv)
 
 loop-again : tie.Need-loop-again Inv-loop μ-loop
 loop-again c =
     let w = fits c in
     let l = here c .before .loop in
     let a = start (here c) .args in (
-      omega (arith, w .least, w .within, size c, l .inv),
+      omega (arith, w .least, w .within, size (here c), l .inv),
       omega (arith, w .least, l .inv),
       l .inv .2 ∙ grows (now (a .payload)) (a .from + l .bytes) (k c) (l .sections) (l .bytes) (told c) ∙ rw (add-assoc (a .from) (l .bytes) (k c)),
     )
@@ -150,9 +161,11 @@ walk-spec =
     new-requires
     returns
     enum-told-2
+    add-new
     new-requires-2
     returns-2
     enum-told-3
+    add-new-2
     new-requires-3
     returns-3
     enum-known-kind

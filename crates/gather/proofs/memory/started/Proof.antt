@@ -8,8 +8,9 @@ use native.Mathlib.Omega.{arith}
 use lib.ListN.{length, getD, drop, length-drop}
 use Rattle.ground.proofs.Part.{length-part}
 use Rattle.ground.specs.Write.{put}
+use Rattle.gather.specs.Rule.{begunIn}
 use Rattle.gather.specs.Memory.{stretch}
-use Rattle.gather.specs.Steps.{carriedAs}
+use Rattle.gather.specs.Steps.{sizesAs, carriedAs}
 use Rattle.gather.specs.declared.measure.Sizes.{Sizes}
 use Rattle.gather.proofs.OnMemory.{AddedFits, added-fits, WalkedFits, walked-fits, unfinished-le, started-carried}
 use borrow.Author.Needs.{needs}
@@ -18,8 +19,8 @@ use Rattle.gather.proofs.memory.started.Tie as tie
 
 -- where both parts of the payload are measured: what was given, where the second part starts, and what each part gives
 module _ (m : tie.After-walk) where
-  abbrev begun : tie.Start
-  begun = m .before .before .before .before .before .before .before .before
+  abbrev start : tie.Start
+  start = m .before .before .before .before .before .before .before .before
 
   abbrev from : ℕ
   from = m .before .before .before .lesser .result
@@ -30,21 +31,21 @@ module _ (m : tie.After-walk) where
   abbrev rest : Sizes
   rest = m .walk .result
 
-  cut : from ≡ min (1 + getD (now (begun .args .payload)) 0 0) (length (now (begun .args .payload)))
+  cut : from ≡ min (1 + getD (now (start .args .payload)) 0 0) (length (now (start .args .payload)))
   cut = m .before .before .before .lesser .ensures
 
-  first-fits : AddedFits (begun .args .held) (from - 1) first
+  first-fits : AddedFits (start .args .held) (from - 1) first
   first-fits =
-      let a = begun .args in
+      let a = start .args in
       added-fits (stretch (a .held) (now (a .store)) (a .base)) (stretch (from - 1) (now (a .payload)) 1) (a .held) (from - 1) first
-      (length-part (a .held) (now (a .store)) (a .base) (omega (arith, begun .pre)))
-      (length-part (from - 1) (now (a .payload)) 1 (omega (arith, begun .pre, cut)))
+      (length-part (a .held) (now (a .store)) (a .base) (omega (arith, start .pre)))
+      (length-part (from - 1) (now (a .payload)) 1 (omega (arith, start .pre, cut)))
       (m .before .added .ensures)
 
-  rest-fits : WalkedFits (length (now (begun .args .payload)) - from) rest
+  rest-fits : WalkedFits (length (now (start .args .payload)) - from) rest
   rest-fits =
-      let s = now (begun .args .payload) in
-      rw (length-drop from s) at (walked-fits (drop from s) rest (m .walk .ensures))
+      let s = now (start .args .payload) in
+      rw (length-drop from s) at (walked-fits (drop from s) (begunIn (drop from s)) rest (m .walk .ensures))
 
 -- where the finished held section, the sections after it and what is held are copied
 abbrev finished : tie.After-finish → tie.After-walk
@@ -82,25 +83,25 @@ walk-requires : tie.Need-walk-requires
 walk-requires c κs = search needs
 
 finish-requires : tie.Need-finish-requires
-finish-requires c κs = let m = c .before .before in omega (arith, first-fits m, begun m .pre, cut m)
+finish-requires c κs = let m = c .before .before in omega (arith, first-fits m, start m .pre, cut m)
 
 copy-requires : tie.Need-copy-requires
 copy-requires c κs =
     let f = c .before .before .before in
     let m = finished f in
-    omega (arith, first-fits m, rest-fits m, begun m .pre, cut m, f .finish .kept)
+    omega (arith, first-fits m, rest-fits m, start m .pre, cut m, f .finish .kept)
 
 add-copy : tie.Need-add-copy
-add-copy c = let m = copied (c .before .before .before .before) in omega (arith, first-fits m, rest-fits m, begun m .pre, cut m)
+add-copy c = let m = copied (c .before .before .before .before) in omega (arith, first-fits m, rest-fits m, start m .pre, cut m)
 
 copy-requires-2 : tie.Need-copy-requires-2
-copy-requires-2 c κs = let m = copied (c .before .before .before .before) in omega (arith, first-fits m, rest-fits m, begun m .pre, cut m)
+copy-requires-2 c κs = let m = copied (c .before .before .before .before) in omega (arith, first-fits m, rest-fits m, start m .pre, cut m)
 
 add-t11 : tie.Need-add-t11
-add-t11 c = let m = stored (c .before .before .before .before) in omega (arith, first-fits m, rest-fits m, begun m .pre, cut m)
+add-t11 c = let m = stored (c .before .before .before .before) in omega (arith, first-fits m, rest-fits m, start m .pre, cut m)
 
 add-t13 : tie.Need-add-t13
-add-t13 c = let m = stored (c .before .before .before .before .before .before) in omega (arith, first-fits m, rest-fits m, begun m .pre, cut m)
+add-t13 c = let m = stored (c .before .before .before .before .before .before) in omega (arith, first-fits m, rest-fits m, start m .pre, cut m)
 
 unfinished-requires : tie.Need-unfinished-requires
 unfinished-requires c κs = search needs
@@ -130,12 +131,12 @@ returns c =
     let o = s .before .before .before .before .before in
     let f = o .before .before .before .before in
     let m = finished f in
-    let a = begun m .args in
+    let a = start m .args in
     let x = first m in
     let y = rest m in
-    let z : Sizes = record { sections = x .sections + y .sections; bytes = x .bytes + y .bytes; held = y .held; «given_up» = x .«given_up» + u .unfinished .result + y .«given_up» } in
+    let z = sizesAs (x .sections + y .sections) (x .bytes + y .bytes) (y .held) (x .«given_up» + u .unfinished .result + y .«given_up») (y .begun) in
     ap₂ (carriedAs z) (s .copy2 .ensures) (o .copy .ensures ∙ ap (λ (l : List ℕ). put l (x .bytes) (stretch (y .bytes) (now (a .payload)) (from m))) (f .finish .ensures))
-    ∙ rw (u .unfinished .ensures) (started-carried (a .held) (now (a .payload)) (now (a .store)) (a .base) (now (a .out)) (begun m .pre .0) (begun m .pre .1)
+    ∙ rw (u .unfinished .ensures) (started-carried (a .held) (now (a .payload)) (now (a .store)) (a .base) (now (a .out)) (start m .pre .0) (start m .pre .1)
     (from m) (cut m) x y (m .before .added .ensures) (m .walk .ensures))
 
 pub started-spec : {M : Type 1} → statement M
