@@ -2,7 +2,6 @@ pub mod Classes
 pub mod Walk
 pub mod Adding
 pub mod Begun
-pub mod AddsUp
 pub mod Sized
 pub mod OnMemory
 pub mod RuleOnMemory
@@ -14,4 +13,5 @@ pub mod Spread
 pub mod Stored
 pub mod Stars
 pub mod Examples
+pub mod AddsUp
 pub mod Claims
