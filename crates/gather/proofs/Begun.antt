@@ -1,4 +1,4 @@
--- Each section that some bytes begin is finished, given up or held: the count goes from section to section as the walk does.
+-- As many sections as some bytes begin are finished, given up or held: the count goes from section to section as the walk does.
 -- Assumes nothing.
 use mathlib.Core.Path.{_≡_, refl, sym, _∙_, ap}
 use mathlib.Core.List.{List, []}

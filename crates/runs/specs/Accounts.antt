@@ -14,7 +14,7 @@ use Rattle.runs.specs.Run.{Driver, Call}
 use Rattle.runs.specs.History.{reports}
 use Rattle.runs.specs.Demand.{worldAfter, history}
 
--- of every PID that has an area: since it was taken, all sections that its packets' answers tell as begun are told as finished or as given up, and one more is held where the area holds bytes
+-- of every PID that has an area: since it was taken, the answers to its packets tell as many sections as begun as they tell as finished and as given up together, and one more where the area holds bytes
 abbrev pub Accounts : Driver → Type 0
 Accounts d =
     (store : List ℕ) (calls : List Call) → length store ≡ storeBytes → (pid : ℕ) → hasArea pid (worldAfter d store calls .state .areas) ≡ true

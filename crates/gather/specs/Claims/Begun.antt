@@ -28,7 +28,7 @@ pub record BegunHolds : Type 0 where
   pub atPart : (s : List ℕ) → classify s ≡ Part → begunIn s ≡ 1
   pub atOverlong : (s : List ℕ) → classify s ≡ Overlong → begunIn s ≡ 1
   pub atWhole : (s : List ℕ) (n : ℕ) → classify s ≡ Whole n → begunIn s ≡ 1 + begunIn (drop n s)
-  -- each section that some bytes begin is finished, given up or held
+  -- as many sections as some bytes begin are finished, given up or held
   pub each : (s : List ℕ) → begunIn s ≡ length (walk s .sections) + walk s .givenUp + unfinished (walk s .held)
   -- unit start 0 begins none
   pub unstarted : (s : State) (p : Packet) → p .start ≡ false → rule s p .begun ≡ 0
