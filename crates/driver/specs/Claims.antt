@@ -8,7 +8,7 @@ use lib.ListN.{length, getD}
 use Rattle.ground.specs.House.{areaBytes, leastOutput}
 use Rattle.ground.specs.Answer.{given}
 use Rattle.packet.specs.Payload.{payloadOf}
-use Rattle.gather.specs.Claims.Begun.{AddsUp}
+use Rattle.gather.specs.Sum.{AddsUp}
 use Rattle.gather.specs.Memory.{stretch}
 use Rattle.state.specs.State.{areaStart, areaOf, freeArea, fresh}
 use Rattle.state.specs.declared.State.{State}

@@ -14,7 +14,8 @@ use Rattle.gather.specs.declared.kind.Kind.the-variants.{Nothing, Part, 
 use Rattle.gather.specs.Kind.{classify, contradicting}
 use Rattle.gather.specs.Rule.{Last, State, blank, Packet, Outcome, nothing, unfinished, first, add, walk, front, back, started, yield, begunBy, repeats, jumps, kept, lost, marked, taken, rule}
 use Rattle.gather.specs.Run.{run}
-use Rattle.gather.specs.Claims.Begun.{AddsUp, CountsNone, BegunHolds}
+use Rattle.gather.specs.Sum.{AddsUp}
+use Rattle.gather.specs.Claims.Begun.{CountsNone, BegunHolds}
 use Rattle.gather.proofs.Classes.{held-kind, said-of, part-fits, part-some}
 use Rattle.gather.proofs.Adding.{add-none, add-kind}
 use Rattle.gather.proofs.Begun.{sectionsIn, begun-is, begun-nothing, begun-part, begun-overlong, begun-whole, begun-few}

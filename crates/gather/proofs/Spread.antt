@@ -32,14 +32,14 @@ next-step : (l : ℕ) → jumps (seen l false) ((l + 1) % 16) ≡ false
 next-step l = rw (ne-eqb ((l + 1) % 16) l (next-differs l), eq-eqb ((l + 1) % 16) ((l + 1) % 16) refl)
 
 -- a packet in step without unit start
-abbrev onward : ℕ → List ℕ → Packet
-onward l b = record { counter = (l + 1) % 16; start = false; payload = b }
+abbrev inStep : ℕ → List ℕ → Packet
+inStep l b = record { counter = (l + 1) % 16; start = false; payload = b }
 
 -- it adds its payload
 pub rule-step : (held : List ℕ) (l : ℕ) (b : List ℕ) → Some b
-    → rule (record { held = held; last = seen l false }) (onward l b) ≡ taken false (onward l b) 0 (add held b)
+    → rule (record { held = held; last = seen l false }) (inStep l b) ≡ taken false (inStep l b) 0 (add held b)
 rule-step held l b n =
-    rw (next-step l) at (rule-taken (record { held = held; last = seen l false }) (onward l b) (λ z. omega arith) (next-new l))
+    rw (next-step l) at (rule-taken (record { held = held; last = seen l false }) (inStep l b) (λ z. omega arith) (next-new l))
 
 -- the bytes of a whole section before its end are a part of it
 pub prefix-part : (a b : List ℕ) → IsWhole (a ++ b) → Some a → Some b → classify a ≡ Part
@@ -59,9 +59,9 @@ goOn o ps =
     record { next = r .next; sections = o .sections ++ r .sections; givenUp = o .givenUp + r .givenUp; begun = o .begun + r .begun }
 
 run-step : (held : List ℕ) (l : ℕ) (b : List ℕ) (rest : List (List ℕ)) (y : Yield) → Some b → add held b ≡ y
-    → run (record { held = held; last = seen l false }) (following l (b ∷ rest)) ≡ goOn (taken false (onward l b) 0 y) (following ((l + 1) % 16) rest)
+    → run (record { held = held; last = seen l false }) (following l (b ∷ rest)) ≡ goOn (taken false (inStep l b) 0 y) (following ((l + 1) % 16) rest)
 run-step held l b rest y n e =
-    ap (λ (o : Outcome). goOn o (following ((l + 1) % 16) rest)) (rule-step held l b n ∙ ap (λ (z : Yield). taken false (onward l b) 0 z) e)
+    ap (λ (o : Outcome). goOn o (following ((l + 1) % 16) rest)) (rule-step held l b n ∙ ap (λ (z : Yield). taken false (inStep l b) 0 z) e)
 
 -- a section gathered whole: it alone is finished, none is given up and nothing is held
 pub record Whole-of (s : List ℕ) (r : Ran) : Type 0 where

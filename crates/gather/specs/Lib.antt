@@ -4,6 +4,7 @@ pub mod Memory
 pub mod Promises
 pub mod Steps
 pub mod Run
+pub mod Sum
 pub mod Stars
 pub mod Examples
 pub mod Claims

@@ -1,4 +1,4 @@
--- Sections begun are accounted for over a run: with each packet what was said adds up with what the rule remembers, and that is what the area holds.
+-- Sections begun are add-up for over a run: with each packet what was said adds up with what the rule remembers, and that is what the area holds.
 -- Assumes nothing.
 use mathlib.Core.Path.{_≡_, refl, sym, _∙_, ap}
 use mathlib.Core.Bool.{Bool, true, false, cond, _&&_}
@@ -8,76 +8,70 @@ use native.Mathlib.Omega.{arith}
 use borrow.Author.Tests.{ltb-true, eqb-true}
 use lib.Dec.{eqb}
 use lib.ListN.{length}
-use Rattle.ground.specs.Walk.{total}
 use Rattle.ground.specs.Write.{put}
 use Rattle.ground.proofs.Part.{length-part}
 use Rattle.gather.specs.Rule as gathering
-use Rattle.gather.specs.Rule.{unfinishedOf}
 use Rattle.gather.specs.Kind.{join}
 use Rattle.gather.proofs.AddsUp.{rule-adds}
 use Rattle.gather.proofs.RuleOnMemory.{sound-says}
 use Rattle.state.specs.State.{areaOf, areaStart, freePlaceOf, placesOn}
 use Rattle.state.proofs.Found.{found-area}
 use Rattle.sound.proofs.Clauses.{area-marks}
-use Rattle.packet_call.specs.Packet.{Said, pidOf, heldIn, packetFrom, report}
+use Rattle.packet_call.specs.Packet.{pidOf, heldIn, packetFrom, report}
 use Rattle.driver.proofs.Cases.{open-ind, close-ind, packet-ind}
 use Rattle.runs.specs.Run.{Call, openCall, closeCall, packetCall, World, openEvent, closeEvent, packetEvent, event, ours}
 use Rattle.runs.specs.History.{OpenedFilter, AcceptedCall, opened, packet, acceptedBy, opens, closes, packets, reports, remembered}
 use Rattle.runs.specs.Answers.{outcomeAfter}
 use Rattle.runs.specs.Demand.{worldAfter, history}
-use Rattle.runs.specs.Accounts.{Accounts}
+use Rattle.runs.specs.Accounts.{TotalsAddUp, Accounts}
 use Rattle.runs.proofs.AsRun.{remembered-none, remembered-one}
 use Rattle.runs.proofs.Ledger.{areaAt, Ledger, remembered-fine}
 use Rattle.runs.proofs.Steps.{ledger}
 use Rattle.runs.proofs.Answers.{outcome-is}
 
--- what was said of some packets adds up with the bytes that are held after them
-abbrev AddUp : List Said → List ℕ → Type 0
-AddUp told held = total (λ (r : Said). r .begun) told ≡ total (λ (r : Said). r .sections) told + total (λ (r : Said). r .givenUp) told + unfinishedOf (length held)
-
 -- what was said of a PID's packets adds up with what the rule remembers of them
-abbrev Accounted : ℕ → List AcceptedCall → Type 0
-Accounted pid h = AddUp (reports pid h) (remembered (packets pid h) .held)
+abbrev AddUpOn : ℕ → List AcceptedCall → Type 0
+AddUpOn pid h = TotalsAddUp (reports pid h) (length (remembered (packets pid h) .held))
 
-none-accounted : AddUp [] (remembered [] .held)
-none-accounted = rw remembered-none
+none-said : TotalsAddUp [] (length (remembered [] .held))
+none-said = rw remembered-none
 
-after-open : (pid : ℕ) (f : OpenedFilter) (h : List AcceptedCall) → Accounted pid h → Accounted pid (opened f ∷ h)
+after-open : (pid : ℕ) (f : OpenedFilter) (h : List AcceptedCall) → AddUpOn pid h → AddUpOn pid (opened f ∷ h)
 after-open pid f h a = go (eqb (f .pid) pid && eqb (opens pid h) (closes pid h))
   where
-    go : (b : Bool) → AddUp (cond b [] (reports pid h)) (remembered (cond b [] (packets pid h)) .held)
-    go true = none-accounted
+    go : (b : Bool) → TotalsAddUp (cond b [] (reports pid h)) (length (remembered (cond b [] (packets pid h)) .held))
+    go true = none-said
     go false = a
 
 -- one packet more, of which the rule's counts are told
-after-packet : (pid : ℕ) (p lent : List ℕ) (places : ℕ) (out : List ℕ) (h : List AcceptedCall) → Accounted pid h
-    → Accounted pid (packet p lent (report (outcomeAfter h p) places) out ∷ h)
+after-packet : (pid : ℕ) (p lent : List ℕ) (places : ℕ) (out : List ℕ) (h : List AcceptedCall) → AddUpOn pid h
+    → AddUpOn pid (packet p lent (report (outcomeAfter h p) places) out ∷ h)
 after-packet pid p lent places out h a = go (eqb (pidOf p) pid) refl
   where
     go : (b : Bool) → eqb (pidOf p) pid ≡ b
-        → AddUp (cond b (report (outcomeAfter h p) places ∷ reports pid h) (reports pid h)) (remembered (cond b (packetFrom p ∷ packets pid h) (packets pid h)) .held)
+        → TotalsAddUp (cond b (report (outcomeAfter h p) places ∷ reports pid h) (reports pid h)) (length (remembered (cond b (packetFrom p ∷ packets pid h) (packets pid h)) .held))
     go true e =
         let own = eqb-true (pidOf p) pid e in
         let o = rule-adds (remembered (packets pid h)) (packetFrom p) (remembered-fine (packets pid h)) in
         rw (remembered-one (packetFrom p) (packets pid h), own) (omega arith)
     go false e = a
 
-module _ (w : World) (h : List AcceptedCall) (l : Ledger w h) (pid : ℕ) (a : Accounted pid h) where
-  step : (c : Call) → Accounted pid (acceptedBy (event ours w c) ++ h)
+module _ (w : World) (h : List AcceptedCall) (l : Ledger w h) (pid : ℕ) (a : AddUpOn pid h) where
+  step : (c : Call) → AddUpOn pid (acceptedBy (event ours w c) ++ h)
   step (openCall q) =
-      open-ind (w .state) q (λ o. Accounted pid (acceptedBy (openEvent q (o .answer)) ++ h)) (λ n x y. a)
+      open-ind (w .state) q (λ o. AddUpOn pid (acceptedBy (openEvent q (o .answer)) ++ h)) (λ n x y. a)
       (λ o. after-open pid (record { number = w .state .next; pid = q; place = freePlaceOf (w .state .filters) }) h a)
   step (closeCall number) =
-      close-ind (w .state) number (λ o. Accounted pid (acceptedBy (closeEvent number (o .answer)) ++ h)) (λ n x y. a) (λ c. a)
+      close-ind (w .state) number (λ o. AddUpOn pid (acceptedBy (closeEvent number (o .answer)) ++ h)) (λ n x y. a) (λ c. a)
   step (packetCall p lent) =
-      packet-ind (w .state) p (w .store) lent (λ o. Accounted pid (acceptedBy (packetEvent p lent (o .answer) (o .out)) ++ h)) (λ n x y. a) (λ b. a)
+      packet-ind (w .state) p (w .store) lent (λ o. AddUpOn pid (acceptedBy (packetEvent p lent (o .answer) (o .out)) ++ h)) (λ n x y. a) (λ b. a)
       (λ k.
       rw (outcome-is w h l p lent (k .area))
       (after-packet pid p lent (placesOn (areaOf (pidOf p) (w .state .areas)) (w .state .filters)) (put lent 0 (join (outcomeAfter h p .sections))) h a))
 
-accounted : (store : List ℕ) → length store ≡ 32768 → (pid : ℕ) (calls : List Call) → Accounted pid (history ours store calls)
-accounted store e pid [] = none-accounted
-accounted store e pid (c ∷ cs) = step (worldAfter ours store cs) (history ours store cs) (ledger store e cs) pid (accounted store e pid cs) c
+add-up : (store : List ℕ) → length store ≡ 32768 → (pid : ℕ) (calls : List Call) → AddUpOn pid (history ours store calls)
+add-up store e pid [] = none-said
+add-up store e pid (c ∷ cs) = step (worldAfter ours store cs) (history ours store cs) (ledger store e cs) pid (add-up store e pid cs) c
 
 pub accounts : Accounts ours
 accounts store calls e pid has =
@@ -93,4 +87,4 @@ accounts store calls e pid has =
     ap (λ (q : ℕ). length (remembered (packets q h) .held)) (sym (found .1))
     ∙ ap (λ (s : gathering.State). length (s .held)) (sym (l .remembers i inside (found .0)))
     ∙ size in
-    rw same at (accounted store e pid calls)
+    rw same at (add-up store e pid calls)

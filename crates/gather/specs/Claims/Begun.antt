@@ -7,13 +7,10 @@ use lib.ListN.{length, drop}
 use Rattle.ground.specs.House.{payloadBytes}
 use Rattle.gather.specs.declared.kind.Kind.the-variants.{Nothing, Part, Overlong, Whole}
 use Rattle.gather.specs.Kind.{classify, contradicting}
-use Rattle.gather.specs.Rule.{State, blank, Packet, Outcome, unfinishedOf, unfinished, walk, begunIn, rule}
+use Rattle.gather.specs.Rule.{State, blank, Packet, Outcome, unfinished, walk, begunIn, rule}
+use Rattle.gather.specs.Sum.{AddsUp}
 use Rattle.gather.specs.Run.{run}
 use Rattle.gather.specs.Examples.{Counted}
-
--- "sections begun, plus one if bytes were held before, equal sections finished plus given up, plus one if bytes are held after"; of what is held the number of bytes is given
-abbrev pub AddsUp : ℕ → ℕ → ℕ → ℕ → ℕ → Type 0
-AddsUp begun before finished givenUp after = begun + unfinishedOf before ≡ finished + givenUp + unfinishedOf after
 
 -- "all but the held terms are 0", and what was held still is
 pub record CountsNone (s : State) (o : Outcome) : Type 0 where
