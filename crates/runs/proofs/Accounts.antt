@@ -1,4 +1,4 @@
--- Sections begun are add-up for over a run: with each packet what was said adds up with what the rule remembers, and that is what the area holds.
+-- Sections begun are accounted for over a run: with each packet what was said adds up with what the rule remembers, and that is what the area holds.
 -- Assumes nothing.
 use mathlib.Core.Path.{_≡_, refl, sym, _∙_, ap}
 use mathlib.Core.Bool.{Bool, true, false, cond, _&&_}
