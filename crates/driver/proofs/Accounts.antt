@@ -1,9 +1,8 @@
 -- Sections begun are accounted for: the rule's counts add up, since refusal 9 has tested what was held, and how many bytes are held is read back from the marks.
 -- Assumes nothing.
 use mathlib.Core.Path.{_≡_, refl, sym, _∙_, ap}
-use mathlib.Core.Bool.{true}
-use mathlib.Core.List.{List, []}
-use mathlib.Core.Logic.{_⊎_, inl, inr}
+use mathlib.Core.List.{List}
+use mathlib.Core.Logic.{⊎-elim}
 use Prim.Native.Nat.{ℕ}
 use native.Mathlib.Omega.{arith}
 use lib.ListN.{length, getD}
@@ -11,7 +10,6 @@ use lib.Seq.{getD-set-same}
 use Rattle.ground.specs.Answer.{given}
 use Rattle.ground.proofs.Answer.{given-apart, given-same}
 use Rattle.ground.proofs.Part.{length-part}
-use Rattle.packet.specs.Payload.{payloadOf}
 use Rattle.gather.specs.Rule.{State, Outcome}
 use Rattle.gather.specs.Memory.{heldOf, stateOf}
 use Rattle.gather.specs.Claims.Begun.{CountsNone}
@@ -50,15 +48,13 @@ module _ (s : driver.State) (p store out : List ℕ) (eight : length (s .areas) 
 
     -- what is said adds up with these numbers
     reported : (held held′ : ℕ) → length (area .held) ≡ held → length (result .next .held) ≡ held′ → Accounted p (report result (placesOn own (s .filters))) held held′
-    reported held held′ b a = rw (← b, ← a) (record { addsUp = rule-adds area (packetFrom p) (h .agrees); none = none })
+    reported held held′ b a = rw (← b, ← a) (record {
+      addsUp = rule-adds area (packetFrom p) (h .agrees);
+      none = ⊎-elim (λ r. all (repeat-counts area (packetFrom p) r)) (λ n. all (without-counts area (packetFrom p) n));
+    })
       where
         all : CountsNone area result → (result .begun ≡ 0) × (length (result .sections) ≡ 0) × (result .givenUp ≡ 0) × (length (result .next .held) ≡ length (area .held))
         all c = (c .begun, ap length (c .sections), c .givenUp, ap length (c .held))
-
-        none : (result .repeat ≡ true) ⊎ (payloadOf p ≡ [])
-            → (result .begun ≡ 0) × (length (result .sections) ≡ 0) × (result .givenUp ≡ 0) × (length (result .next .held) ≡ length (area .held))
-        none (inl r) = all (repeat-counts area (packetFrom p) r)
-        none (inr n) = all (without-counts area (packetFrom p) n)
 
   pub packet-accounted : (r : Said) → packetOf s p store out .answer ≡ given r
       → let i = areaOf (pidOf p) (s .areas) in

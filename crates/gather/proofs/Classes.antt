@@ -146,6 +146,7 @@ part-fits s e = let w = said-of s Part e in (w .0, room (length s) (sectionLengt
         go true e = let h = ltb-true size 3 e in omega arith
         go false e = let h = ltb-false size 3 e in let a = p h in let b = q h in omega arith
 
+-- so it is not empty
 pub part-some : (s : List ℕ) → classify s ≡ Part → isEmpty s ≡ false
 part-some s e = let some = part-fits s e .0 in ne-eqb (length s) 0 (λ z. omega arith)
 

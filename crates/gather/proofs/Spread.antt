@@ -1,7 +1,7 @@
 -- A section spread over packets in step is finished whole: before its end its bytes are a part of it, and what follows its end is ignored.
 -- Assumes nothing.
 use mathlib.Core.Path.{_≡_, refl, _∙_, ap}
-use mathlib.Core.Bool.{true, false}
+use mathlib.Core.Bool.{false}
 use mathlib.Core.List.{List, [], _∷_, _++_, append-assoc, append-nil}
 use Prim.Native.Nat.{ℕ, _+_, _%_}
 use native.Mathlib.Omega.{arith}
@@ -12,7 +12,7 @@ use Rattle.ground.specs.Walk.{Every}
 use Rattle.gather.specs.declared.kind.Kind.the-variants.{Part, Whole}
 use Rattle.gather.specs.Kind.{classify, join}
 use Rattle.gather.specs.Rule.{seen, Packet, Yield, Outcome, add, started, ended, together, repeats, jumps, kept, lost, taken, rule}
-use Rattle.gather.specs.Run.{Ran, run, following}
+use Rattle.gather.specs.Run.{Ran, run, starts, continues, following}
 use Rattle.gather.proofs.Classes.{whole-again, part-of}
 use Rattle.gather.specs.Claims.{IsWhole, Some, Spread}
 use Rattle.gather.proofs.Walk.{walk-kind}
@@ -31,15 +31,11 @@ next-new l = rw (ne-eqb ((l + 1) % 16) l (next-differs l))
 next-step : (l : ℕ) → jumps (seen l false) ((l + 1) % 16) ≡ false
 next-step l = rw (ne-eqb ((l + 1) % 16) l (next-differs l), eq-eqb ((l + 1) % 16) ((l + 1) % 16) refl)
 
--- a packet in step without unit start
-abbrev inStep : ℕ → List ℕ → Packet
-inStep l b = record { counter = (l + 1) % 16; start = false; payload = b }
-
--- it adds its payload
+-- a packet in step without unit start adds its payload
 pub rule-step : (held : List ℕ) (l : ℕ) (b : List ℕ) → Some b
-    → rule (record { held = held; last = seen l false }) (inStep l b) ≡ taken false (inStep l b) 0 (add held b)
+    → rule (record { held = held; last = seen l false }) (continues ((l + 1) % 16) b) ≡ taken false (continues ((l + 1) % 16) b) 0 (add held b)
 rule-step held l b n =
-    rw (next-step l) at (rule-taken (record { held = held; last = seen l false }) (inStep l b) (λ z. omega arith) (next-new l))
+    rw (next-step l) at (rule-taken (record { held = held; last = seen l false }) (continues ((l + 1) % 16) b) (λ z. omega arith) (next-new l))
 
 -- the bytes of a whole section before its end are a part of it
 pub prefix-part : (a b : List ℕ) → IsWhole (a ++ b) → Some a → Some b → classify a ≡ Part
@@ -59,9 +55,9 @@ goOn o ps =
     record { next = r .next; sections = o .sections ++ r .sections; givenUp = o .givenUp + r .givenUp; begun = o .begun + r .begun }
 
 run-step : (held : List ℕ) (l : ℕ) (b : List ℕ) (rest : List (List ℕ)) (y : Yield) → Some b → add held b ≡ y
-    → run (record { held = held; last = seen l false }) (following l (b ∷ rest)) ≡ goOn (taken false (inStep l b) 0 y) (following ((l + 1) % 16) rest)
+    → run (record { held = held; last = seen l false }) (following l (b ∷ rest)) ≡ goOn (taken false (continues ((l + 1) % 16) b) 0 y) (following ((l + 1) % 16) rest)
 run-step held l b rest y n e =
-    ap (λ (o : Outcome). goOn o (following ((l + 1) % 16) rest)) (rule-step held l b n ∙ ap (λ (z : Yield). taken false (inStep l b) 0 z) e)
+    ap (λ (o : Outcome). goOn o (following ((l + 1) % 16) rest)) (rule-step held l b n ∙ ap (λ (z : Yield). taken false (continues ((l + 1) % 16) b) 0 z) e)
 
 -- a section gathered whole: it alone is finished, none is given up and nothing is held
 pub record Whole-of (s : List ℕ) (r : Ran) : Type 0 where
@@ -103,7 +99,7 @@ gathers-whole s counter a bs c tail h r p e end w =
     let b = jumps (s .last) counter in
     let held = kept b (s .held) in
     let rest = following counter (bs ++ (c ++ tail) ∷ []) in
-    let first : Packet = record { counter = counter; start = true; payload = 0 ∷ a } in
+    let first = starts counter (0 ∷ a) in
     ap (λ (o : Outcome). goOn o rest .sections) (rule-taken s first (λ z. omega arith) r)
     ∙ ap (λ (y : Yield). goOn (taken b first (lost b (s .held)) y) rest .sections) (started-part held a (prefix-part a (join bs ++ c) w p more))
     ∙ ap (λ (l : List (List ℕ)). (l ++ []) ++ run (record { held = a; last = seen counter false }) rest .sections) (add-alone held (kept-fine b (s .held) h))

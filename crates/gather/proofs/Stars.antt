@@ -11,7 +11,8 @@ use borrow.Author.Tests.{le-leb}
 use Rattle.ground.specs.Walk.{Every}
 use Rattle.ground.proofs.Write.{put-nil}
 use Rattle.gather.specs.Kind.{kindOf, classify}
-use Rattle.gather.specs.Rule.{blank, seen, Packet, Yield, Outcome, front, back, walk, started, begunIn, taken, rule}
+use Rattle.gather.specs.Rule.{blank, seen, Yield, Outcome, front, back, walk, started, begunIn, taken, rule}
+use Rattle.gather.specs.Run.{starts}
 use Rattle.gather.specs.Memory.{noMarks, onMemory}
 use Rattle.gather.specs.Stars.{Right, cases, length-182, pointer-183, pointer-182, pointer-182-stored}
 use Rattle.gather.proofs.Adding.{add-none}
@@ -43,7 +44,7 @@ module _ (bytes : List ℕ) (e : length bytes ≡ 182) where
   one-held : (counter : ℕ) → rule blank (record { counter = counter; start = true; payload = 182 ∷ (bytes ++ 0x80 ∷ []) })
       ≡ record { next = record { held = 0x80 ∷ []; last = seen counter false }; sections = []; jump = false; repeat = false; givenUp = 0; begun = 1 }
   one-held counter =
-      let p : Packet = record { counter = counter; start = true; payload = 182 ∷ (bytes ++ 0x80 ∷ []) } in
+      let p = starts counter (182 ∷ (bytes ++ 0x80 ∷ [])) in
       rule-taken blank p (λ z. omega arith) refl ∙ ap (λ (y : Yield). taken false p 0 y) gives ∙ rw begins
 
 held : Right pointer-182

@@ -6,7 +6,7 @@ use Prim.Native.Nat.{ℕ}
 use lib.ListN.{length, replicate}
 use Rattle.gather.specs.Kind.{join}
 use Rattle.gather.specs.Rule.{Packet, Outcome, blank, seen, rule}
-use Rattle.gather.specs.Run.{run, outcomes, starting}
+use Rattle.gather.specs.Run.{run, outcomes, starts, continues, starting}
 
 -- a section's first bytes: table_id 0x80, these two of which the section_length is read, and n bytes 0x2A
 abbrev pub section : ℕ → ℕ → ℕ → List ℕ
@@ -25,13 +25,13 @@ Longest =
 
 -- ---- a section of 303 bytes (section_length 0x12C): 183 of them come with counter 5, and then packets with its other 120 bytes
 abbrev pub firstPart : Packet
-firstPart = record { counter = 5; start = true; payload = 0 ∷ section 0xB1 0x2C 180 }
+firstPart = starts 5 (0 ∷ section 0xB1 0x2C 180)
 
 abbrev pub lastPart : ℕ → Packet
-lastPart counter = record { counter = counter; start = false; payload = replicate 120 0x2A ++ replicate 64 0xFF }
+lastPart counter = continues counter (replicate 120 0x2A ++ replicate 64 0xFF)
 
 abbrev pub noPayload : Packet
-noPayload = record { counter = 5; start = false; payload = [] }
+noPayload = continues 5 []
 
 -- an outcome that finishes nothing: how much of the section is held after it, whether the repeat was seen, jump, repeat, and how many sections were given up and begun
 abbrev pub finishesNone : List ℕ → Bool → Bool → Bool → ℕ → ℕ → Outcome
@@ -54,13 +54,6 @@ Stuck =
     ≡ record { next = record { held = []; last = seen 6 false }; sections = section 0xB1 0x2C 300 ∷ []; givenUp = 0; begun = 1 })
 
 -- ---- what is counted
--- with unit start, and without
-abbrev pub starts : ℕ → List ℕ → Packet
-starts counter payload = record { counter = counter; start = true; payload = payload }
-
-abbrev pub goesOn : ℕ → List ℕ → Packet
-goesOn counter payload = record { counter = counter; start = false; payload = payload }
-
 -- three sections begin, of which two end and 176 bytes of the third are held
 abbrev pub threeBegun : Packet
 threeBegun = starts 0 (0x00 ∷ 0x80 ∷ 0x30 ∷ 0x01 ∷ 0xAA ∷ 0x81 ∷ 0x30 ∷ 0x00 ∷ 0x82 ∷ 0xB1 ∷ 0x2C ∷ replicate 173 0x2A)
@@ -83,11 +76,11 @@ countedPackets =
     ∷ starts 9 (0x00 ∷ 0x85 ∷ 0x30 ∷ 0x00 ∷ 0x86 ∷ 0x30 ∷ 0x00 ∷ 0x87 ∷ 0x3F ∷ 0xFE ∷ replicate 174 0xFF)
     -- the last byte alone is taken as a table_id, and the next two bytes say that its section is too long
     ∷ starts 10 (0xB6 ∷ replicate 182 0xFF ++ 0x80 ∷ [])
-    ∷ goesOn 11 (0x0F ∷ 0xFE ∷ replicate 182 0x00)
+    ∷ continues 11 (0x0F ∷ 0xFE ∷ replicate 182 0x00)
     -- 61 begin, all of them whole; 61 begin, and of the last one a byte is missing
     ∷ starts 12 (0x00 ∷ shortest 61)
     ∷ starts 13 (0x00 ∷ shortest 60 ++ 0x70 ∷ 0xF0 ∷ 0x01 ∷ [])
-    ∷ goesOn 14 (replicate 184 0x2A)
+    ∷ continues 14 (replicate 184 0x2A)
     ∷ []
 
 -- sections begun, finished and given up, and bytes held after the packet

@@ -24,11 +24,18 @@ abbrev pub outcomes : (State → Packet → Outcome) → State → List Packet �
 outcomes gather s [] = []
 outcomes gather s (p ∷ ps) = gather s p ∷ outcomes gather (gather s p .next) ps
 
+-- a packet with unit start, and one without
+abbrev pub starts : ℕ → List ℕ → Packet
+starts counter payload = record { counter = counter; start = true; payload = payload }
+
+abbrev pub continues : ℕ → List ℕ → Packet
+continues counter payload = record { counter = counter; start = false; payload = payload }
+
 -- packets without unit start, in step after a last counter: each with its payload
 abbrev pub following : ℕ → List (List ℕ) → List Packet
 following l [] = []
-following l (b ∷ bs) = record { counter = (l + 1) % 16; start = false; payload = b } ∷ following ((l + 1) % 16) bs
+following l (b ∷ bs) = continues ((l + 1) % 16) b ∷ following ((l + 1) % 16) bs
 
 -- a packet with unit start and pointer 0, and those after it
 abbrev pub starting : ℕ → List ℕ → List (List ℕ) → List Packet
-starting counter first rest = record { counter = counter; start = true; payload = 0 ∷ first } ∷ following counter rest
+starting counter first rest = starts counter (0 ∷ first) ∷ following counter rest

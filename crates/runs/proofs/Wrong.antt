@@ -62,14 +62,14 @@ sections-invented s =
     omega arith
 
 -- a packet of PID 0 whose last byte is taken as a table_id
-abbrev last : List ℕ
-last = 0x47 ∷ 0x40 ∷ 0x00 ∷ 0x10 ∷ 0xB6 ∷ replicate 182 0xFF ++ 0x80 ∷ []
+abbrev lastByte : List ℕ
+lastByte = 0x47 ∷ 0x40 ∷ 0x00 ∷ 0x10 ∷ 0xB6 ∷ replicate 182 0xFF ++ 0x80 ∷ []
 
 -- a section is begun, and none is finished
 finished-told-as-begun : Statement finishedToldAsBegun → ⊥
 unfolding openOf closeOf packetOf sound put rule walk add started begunIn classify kindOf remembered
 finished-told-as-begun s =
-    let count : _≡_ {A = ℕ} 0 1 = ap (λ (r : Said). r .begun) (demanded finishedToldAsBegun s (openCall 0 ∷ []) .whole last lent _ _ refl refl .0) in
+    let count : _≡_ {A = ℕ} 0 1 = ap (λ (r : Said). r .begun) (demanded finishedToldAsBegun s (openCall 0 ∷ []) .whole lastByte lent _ _ refl refl .0) in
     omega arith
 
 -- the second section's table_id is missing
