@@ -1,18 +1,20 @@
 //! Counts what outcomes hold, and names what they lack.
 
+mod sets;
 mod states;
 
 use std::collections::BTreeMap;
 use std::io::{self, BufRead, Write};
 
+use sets::nobody;
 use states::{Shown, States};
 
 /// The least number of outcomes of each call word.
 const LEAST: u64 = 20_000;
 
-/// Each call word with the refusals that its order in document 01 has.
+/// Each call word with the refusals that its order in document 01 has, with request 2 of document 02.
 const CALLS: [(&str, &[u32]); 22] = [
-    ("open", &[1, 12, 13, 14, 15]),
+    ("open", &[1, 12, 17, 13, 14, 15]),
     ("close", &[1, 16]),
     ("packet", &[1, 3, 2, 4, 5, 6, 7, 8, 9, 10, 11]),
     ("pid", &[12]),
@@ -37,7 +39,7 @@ const CALLS: [(&str, &[u32]); 22] = [
 ];
 
 /// Things that must occur beside the refusals.
-const MARKS: [&str; 19] = [
+const MARKS: [&str; 20] = [
     "wanted",
     "unwanted",
     "jump",
@@ -50,6 +52,7 @@ const MARKS: [&str; 19] = [
     "begun61",
     "part61",
     "begun",
+    "nobody",
     "given",
     "closed",
     "right",
@@ -59,9 +62,9 @@ const MARKS: [&str; 19] = [
     "bad",
 ];
 
-const REFUSALS: [u32; 34] = [
-    1, 2, 3, 4, 5, 6, 7, 8, 9, 10, 11, 12, 13, 14, 15, 16, 20, 21, 22, 23, 24, 25, 26, 27, 30, 31,
-    32, 33, 34, 35, 36, 37, 40, 41,
+const REFUSALS: [u32; 35] = [
+    1, 2, 3, 4, 5, 6, 7, 8, 9, 10, 11, 12, 13, 14, 15, 16, 17, 20, 21, 22, 23, 24, 25, 26, 27, 30,
+    31, 32, 33, 34, 35, 36, 37, 40, 41,
 ];
 
 #[derive(Default)]
@@ -109,24 +112,27 @@ impl Counts {
         self.add("wanted");
         let marks = [
             (2, "61", "sections61"),
-            (5, "1", "jump"),
-            (6, "1", "repeat"),
-            (7, "1", "cut1"),
-            (7, "2", "cut2"),
-            (8, "61", "begun61"),
+            (4, "1", "jump"),
+            (5, "1", "repeat"),
+            (6, "1", "cut1"),
+            (6, "2", "cut2"),
+            (7, "61", "begun61"),
         ];
         for (place, value, name) in marks {
             if parts.get(place) == Some(&value) {
                 self.add(name);
             }
         }
-        match (parts.get(2), parts.get(8)) {
+        match (parts.get(2), parts.get(7)) {
             (Some(&"60"), Some(&"61")) => self.add("part61"),
             (Some(&"0"), Some(begun)) if *begun != "0" => self.add("begun"),
             _ => {}
         }
-        if parts.get(5) == Some(&"1") && shown.forgot {
+        if parts.get(4) == Some(&"1") && shown.forgot {
             self.add("stuck");
+        }
+        if nobody(parts) {
+            self.add("nobody");
         }
     }
 }

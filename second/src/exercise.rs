@@ -14,6 +14,7 @@ use crate::state::State;
 use buffers::Buffers;
 
 pub use line::LINES;
+pub use records::table_of;
 
 /// What is kept from line to line.
 pub struct Exercise {

@@ -1,14 +1,15 @@
-//! Document 01, "Filters and areas": open and close.
+//! Document 01, "Filters and areas", with request 2 of document 02: open and close.
 
-use crate::numbers_of_the_house::{LAST_FILTER_PID, LAST_NUMBER};
+use crate::numbers_of_the_house::{LAST_CHOICE, LAST_FILTER_PID, LAST_NUMBER};
 use crate::refusal_numbers::{demand, Refusal};
 use crate::soundness::sound;
-use crate::state::{Area, Place, State};
+use crate::state::{Area, Choice, Place, State};
 
 /// Opens a filter and answers its number and place.
-pub fn open(state: &mut State, pid: u16) -> Result<(u16, usize), Refusal> {
+pub fn open(state: &mut State, pid: u16, choice: Choice) -> Result<(u16, usize), Refusal> {
     demand(sound(state), 1)?;
     demand(pid <= LAST_FILTER_PID, 12)?;
+    demand(choice.number() <= LAST_CHOICE, 17)?;
     demand(state.next <= LAST_NUMBER, 13)?;
     let free_place = state.places.iter().position(|place| !place.open());
     let place = free_place.ok_or(Refusal(14))?;
@@ -20,6 +21,7 @@ pub fn open(state: &mut State, pid: u16) -> Result<(u16, usize), Refusal> {
     state.places[place] = Place {
         number,
         area: area as u8,
+        choice: choice.number(),
     };
     state.next += 1;
     Ok((number, place))

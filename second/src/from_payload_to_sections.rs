@@ -1,8 +1,8 @@
-//! Document 01, "From payload to sections", with requests 3 and 10 of document 02: the packet call on whole buffers.
+//! Document 01, "From payload to sections", with requests 2, 3 and 10 of document 02: the packet call on whole buffers.
 
 use crate::bytes::number_in;
 use crate::numbers_of_the_house::{
-    AREA_BYTES, LEAST_OUTPUT_BYTES, LONGEST_SECTION_LENGTH, STORE_BYTES,
+    AREA_BYTES, LEAST_LIST_PLACES, LEAST_OUTPUT_BYTES, LONGEST_SECTION_LENGTH, STORE_BYTES,
 };
 use crate::refusal_numbers::{demand, Refusal};
 use crate::soundness::sound;
@@ -13,7 +13,6 @@ use crate::the_packet::{read_packet, Reading};
 pub struct Wanted {
     pub sections: usize,
     pub bytes: usize,
-    pub set: u32,
     pub jump: bool,
     pub repeat: bool,
     pub given_up: u32,
@@ -45,11 +44,13 @@ pub fn packet_call(
     state: &mut State,
     store: &mut [u8],
     output: &mut [u8],
+    list: &mut [u32],
     packet: &[u8],
 ) -> Result<Answer, Refusal> {
     demand(sound(state), 1)?;
-    let store_fits = store.len() == STORE_BYTES;
-    demand(store_fits && output.len() >= LEAST_OUTPUT_BYTES, 3)?;
+    demand(store.len() == STORE_BYTES, 3)?;
+    demand(output.len() >= LEAST_OUTPUT_BYTES, 3)?;
+    demand(list.len() >= LEAST_LIST_PLACES, 3)?;
     let reading = read_packet(packet)?;
     let area = match state.area_of(reading.pid) {
         Some(area) => area,
@@ -61,21 +62,26 @@ pub fn packet_call(
     demand(reading.scrambling == 0, 10)?;
     let payload = &packet[reading.payload.start..];
     demand(!pointer_leaves_nothing(&reading, payload), 11)?;
-    let mut answer = Wanted {
-        set: state.set_on(area),
-        ..Wanted::default()
-    };
+    let mut answer = Wanted::default();
     if !payload.is_empty() {
         let gathered = take_payload(state, area, &reading, held, payload, &mut answer);
         store[first..first + gathered.held.len()].copy_from_slice(&gathered.held);
         let joined = gathered.sections.concat();
         output[..joined.len()].copy_from_slice(&joined);
+        write_sets(state, area, &gathered.sections, list);
         answer.sections = gathered.sections.len();
         answer.bytes = joined.len();
         answer.given_up = gathered.given_up;
         answer.begun = gathered.begun;
     }
     Ok(Answer::Wanted(answer))
+}
+
+/// Each section's set, that of the filters which let its table_id through.
+fn write_sets(state: &State, area: usize, sections: &[Vec<u8>], list: &mut [u32]) {
+    for (set, section) in list.iter_mut().zip(sections) {
+        *set = state.set_on(area, section[0]);
+    }
 }
 
 fn contradicts(held: &[u8]) -> bool {

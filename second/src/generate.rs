@@ -2,6 +2,7 @@
 
 mod alone;
 mod bad;
+mod choices;
 mod driver;
 mod numbers;
 mod packets;

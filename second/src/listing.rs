@@ -4,15 +4,18 @@ use std::io::{self, Read, Write};
 
 use crate::filters_and_areas::open;
 use crate::from_payload_to_sections::{packet_call, Answer, Wanted};
-use crate::numbers_of_the_house::{LEAST_OUTPUT_BYTES, PACKET_BYTES, STORE_BYTES};
-use crate::state::State;
+use crate::numbers_of_the_house::{
+    LEAST_LIST_PLACES, LEAST_OUTPUT_BYTES, PACKET_BYTES, STORE_BYTES,
+};
+use crate::state::{Choice, State};
 
 pub fn run(input: &mut dyn Read, output: &mut dyn Write) -> io::Result<()> {
     let mut state = State::fresh();
     // A fresh state has room for a filter on PID 0, so this is never refused.
-    let _ = open(&mut state, 0);
+    let _ = open(&mut state, 0, Choice::All);
     let mut store = vec![0; STORE_BYTES];
     let mut sections = vec![0; LEAST_OUTPUT_BYTES];
+    let mut sets = vec![0; LEAST_LIST_PLACES];
     writeln!(output, "packet\tpid\tword\tnumber\tbytes")?;
     let mut packet = Vec::new();
     for index in 0u64.. {
@@ -22,7 +25,7 @@ pub fn run(input: &mut dyn Read, output: &mut dyn Write) -> io::Result<()> {
         if packet.is_empty() {
             break;
         }
-        match packet_call(&mut state, &mut store, &mut sections, &packet) {
+        match packet_call(&mut state, &mut store, &mut sections, &mut sets, &packet) {
             Ok(Answer::Unwanted) => {}
             Ok(Answer::Wanted(wanted)) => list_wanted(output, index, &wanted, &sections)?,
             Err(refusal) => writeln!(output, "{}\t-\trefused\t{}\t-", index, refusal.0)?,

@@ -1,4 +1,4 @@
-//! Document 01, "Numbers of the house".
+//! Document 01, "Numbers of the house", with request 2 of document 02.
 
 pub const AREAS: usize = 8;
 pub const AREA_BYTES: usize = 4_096;
@@ -6,9 +6,11 @@ pub const STORE_BYTES: usize = 32_768;
 pub const PLACES: usize = 32;
 pub const LAST_NUMBER: u32 = 65_535;
 pub const LEAST_OUTPUT_BYTES: usize = 4_278;
+pub const LEAST_LIST_PLACES: usize = 61;
 pub const LONGEST_SECTION_LENGTH: usize = 4_093;
 pub const PACKET_BYTES: usize = 188;
 pub const LAST_FILTER_PID: u16 = 0x1FFE;
 pub const LAST_PID: u16 = 0x1FFF;
+pub const LAST_CHOICE: u16 = 255;
 pub const STAMP_TURN: u64 = 8_589_934_592;
 pub const CLOCK_TURN: u64 = 2_576_980_377_600;

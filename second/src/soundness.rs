@@ -1,11 +1,11 @@
-//! Document 01, "Filters and areas", with request 3 of document 02: the clauses of "Sound means", one function each.
+//! Document 01, "Filters and areas", with requests 2 and 3 of document 02: the clauses of "Sound means", one function each.
 
-use crate::numbers_of_the_house::{AREAS, AREA_BYTES, LAST_FILTER_PID, LAST_NUMBER};
+use crate::numbers_of_the_house::{AREAS, AREA_BYTES, LAST_CHOICE, LAST_FILTER_PID, LAST_NUMBER};
 use crate::state::{Area, Place, State};
 
 pub type Clause = fn(&State) -> bool;
 
-pub const CLAUSES: [Clause; 14] = [
+pub const CLAUSES: [Clause; 15] = [
     used_areas_have_different_pids,
     used_areas_have_pids_for_filters,
     user_counts_are_the_open_filters,
@@ -19,6 +19,7 @@ pub const CLAUSES: [Clause; 14] = [
     marks_of_a_counter_are_0_or_1,
     marks_of_a_repeat_are_0_or_1,
     open_filters_stand_on_used_areas,
+    open_filters_chose_a_table_or_all,
     free_records_are_zero,
 ];
 
@@ -102,6 +103,10 @@ pub fn open_filters_stand_on_used_areas(state: &State) -> bool {
         let area = usize::from(place.area);
         area < AREAS && state.areas[area].used()
     })
+}
+
+pub fn open_filters_chose_a_table_or_all(state: &State) -> bool {
+    open(state).all(|place| place.choice <= LAST_CHOICE)
 }
 
 pub fn free_records_are_zero(state: &State) -> bool {

@@ -1,4 +1,4 @@
-//! Document 01, "Filters and areas", with request 3 of document 02: the records that a state is made of.
+//! Document 01, "Filters and areas", with requests 2 and 3 of document 02: the records that a state is made of.
 
 use crate::numbers_of_the_house::{AREAS, PLACES};
 
@@ -28,15 +28,40 @@ impl Area {
     }
 }
 
+/// What a filter lets through: every table, or the one with this table_id, which may be one that open refuses.
+#[derive(Clone, Copy, Debug, PartialEq, Eq)]
+pub enum Choice {
+    All,
+    One(u8),
+}
+
+impl Choice {
+    /// The number that stands for the choice in a filter's record.
+    pub fn number(self) -> u16 {
+        match self {
+            Choice::All => 0,
+            Choice::One(table) => 1 + u16::from(table),
+        }
+    }
+}
+
 #[derive(Clone, Copy, Debug, Default, PartialEq, Eq)]
 pub struct Place {
     pub number: u16,
     pub area: u8,
+    pub choice: u16,
 }
 
 impl Place {
     pub fn open(&self) -> bool {
         self.number != 0
+    }
+
+    /// Whether the record's choice is all or this table.
+    pub fn lets(&self, table: u8) -> bool {
+        [Choice::All, Choice::One(table)]
+            .iter()
+            .any(|choice| choice.number() == self.choice)
     }
 }
 
@@ -63,11 +88,11 @@ impl State {
             .map(|(index, _)| index)
     }
 
-    /// The set of filter places on an area, place i as bit i.
-    pub fn set_on(&self, area: usize) -> u32 {
+    /// The set of filter places on an area that let the table through, place i as bit i.
+    pub fn set_on(&self, area: usize, table: u8) -> u32 {
         let mut set = 0;
         for (index, place) in self.places.iter().enumerate() {
-            if place.open() && usize::from(place.area) == area {
+            if place.open() && usize::from(place.area) == area && place.lets(table) {
                 set += 2u32.pow(index as u32);
             }
         }

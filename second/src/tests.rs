@@ -1,6 +1,7 @@
 //! The documents' examples, and what the commands promise.
 
 mod begun;
+mod choices;
 mod commands;
 mod counts;
 mod driver;

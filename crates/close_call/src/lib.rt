@@ -90,7 +90,11 @@ fn without_filter(state: State, place: usize) -> State
     let area = filter.area as usize;
     let own = areas[area];
     areas[area] = without_user(own);
-    filters[place] = Filter { number: 0, area: 0 };
+    filters[place] = Filter {
+        number: 0,
+        area: 0,
+        choice: 0,
+    };
     State {
         areas,
         filters,

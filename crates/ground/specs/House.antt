@@ -23,6 +23,14 @@ lastNumber = 65535
 abbrev pub leastOutput : ℕ
 leastOutput = 4278
 
+-- "a lent list of at least 61 places" (document 02, ticket 2): as many sections a packet finishes at most
+abbrev pub leastList : ℕ
+leastList = 61
+
+-- "one table_id, 0 to 254" (document 02, ticket 2); 255 stands where no section is
+abbrev pub lastTable : ℕ
+lastTable = 254
+
 -- "section_length at most 4,093"
 abbrev pub longestLength : ℕ
 longestLength = 4093

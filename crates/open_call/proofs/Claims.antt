@@ -7,6 +7,7 @@ use Rattle.ground.specs.Outcome.{Determined}
 use Rattle.ground.specs.Refusal.{ExactCall}
 use Rattle.ground.proofs.Judged.{exact-call}
 use Rattle.ground.proofs.Outcome.{determined-told}
+use Rattle.state.specs.declared.Choice.{Choice}
 use Rattle.state.specs.declared.State.{State}
 use Rattle.open_call.specs.Open.{Place, AfterOpen, toldOpening, toldOpened, openRefusals, openOf}
 use Rattle.open_call.specs.Promises.{OpensFilter}
@@ -29,13 +30,13 @@ openedMade a = record { state = a .state; answer = openingMade (a .answer) }
 opened-back : (x : Opened) → openedMade (toldOpened x) ≡ x
 opened-back x = ap (λ (a : Opening). record { state = x .state; answer = a }) (opening-back (x .answer))
 
-opens-filter : (s : State) (pid : ℕ) → Determined (OpensFilter s pid)
-opens-filter s pid = determined-told toldOpened openedMade opened-back (openOf s pid)
+opens-filter : (s : State) (pid : ℕ) (choice : Choice) → Determined (OpensFilter s pid choice)
+opens-filter s pid choice = determined-told toldOpened openedMade opened-back (openOf s pid choice)
 
-exact-open : (s : State) (pid : ℕ)
-    → ExactCall (openRefusals s pid) (λ (x : AfterOpen). x .answer) (λ n. record { answer = refused n; state = s }) (openOf s pid)
+exact-open : (s : State) (pid : ℕ) (choice : Choice)
+    → ExactCall (openRefusals s pid choice) (λ (x : AfterOpen). x .answer) (λ n. record { answer = refused n; state = s }) (openOf s pid choice)
 unfolding openOf
-exact-open s pid = exact-call (λ (x : AfterOpen). x .answer) (λ n. record { answer = refused n; state = s }) (λ n. refl) (openRefusals s pid) _ _ refl
+exact-open s pid choice = exact-call (λ (x : AfterOpen). x .answer) (λ n. record { answer = refused n; state = s }) (λ n. refl) (openRefusals s pid choice) _ _ refl
 
 pub claims : Claims
 claims = record { opensFilter = opens-filter; exactOpen = exact-open }

@@ -8,7 +8,9 @@ use Rattle.ground.specs.House.{lastNumber, lastFilterPid}
 use Rattle.ground.specs.Answer.{Answer, refused, given}
 use Rattle.ground.specs.Refusal.{Row, judge, _when_}
 use Rattle.state.specs.State.{areaOf, freeAreaOf, freePlaceOf, freeArea}
+use Rattle.state.specs.Choice.{soundChoice, codeOf}
 use Rattle.state.specs.declared.Area.{Area}
+use Rattle.state.specs.declared.Choice.{Choice}
 use Rattle.state.specs.declared.State.{State}
 use Rattle.sound.specs.Sound.{sound}
 use Rattle.open_call.specs.declared.Opened.{Opened}
@@ -41,11 +43,12 @@ hasArea pid areas = ltb (areaOf pid areas) (length areas)
 abbrev pub areaFor : ℕ → List Area → ℕ
 areaFor pid areas = cond (hasArea pid areas) (areaOf pid areas) (freeAreaOf areas)
 
--- "Open: 1, 12, 13, 14, 15"
-abbrev pub openRefusals : State → ℕ → List Row
-openRefusals s pid =
+-- "Open: 1, 12, 13, 14, 15"; with ticket 2 of document 02 "17, table_id 255, in open after 12"
+abbrev pub openRefusals : State → ℕ → Choice → List Row
+openRefusals s pid choice =
     (1 when not (sound s))
     ∷ (12 when ltb lastFilterPid pid)
+    ∷ (17 when not (soundChoice choice))
     ∷ (13 when ltb lastNumber (s .next))
     ∷ (14 when leb (length (s .filters)) (freePlaceOf (s .filters)))
     ∷ (15 when leb (length (s .areas)) (areaFor pid (s .areas)))
@@ -55,21 +58,21 @@ openRefusals s pid =
 abbrev pub withUser : ℕ → Area → Area
 withUser pid a = record { pid = record { 0 = pid }; users = a .users + 1; marks = a .marks }
 
--- the state with a filter at this place on this area
-abbrev pub withFilter : State → ℕ → ℕ → ℕ → State
-withFilter s pid area place =
+-- the state with a filter at this place on this area, its choice by its number
+abbrev pub withFilter : State → ℕ → ℕ → ℕ → ℕ → State
+withFilter s pid code area place =
     record {
       areas = set (s .areas) area (withUser pid (getD (s .areas) area freeArea));
-      filters = set (s .filters) place (record { number = s .next; area = area });
+      filters = set (s .filters) place (record { number = s .next; area = area; choice = code });
       next = s .next + 1;
     }
 
 -- the state with one filter more
-abbrev pub opened : State → ℕ → State
-opened s pid = withFilter s pid (areaFor pid (s .areas)) (freePlaceOf (s .filters))
+abbrev pub opened : State → ℕ → Choice → State
+opened s pid choice = withFilter s pid (codeOf choice) (areaFor pid (s .areas)) (freePlaceOf (s .filters))
 
 -- "Open takes the lowest free place, and the lowest free area if none has the PID"
-unfoldable pub openOf : State → ℕ → AfterOpen
-openOf s pid =
-    judge (λ n. record { answer = refused n; state = s }) (openRefusals s pid)
-    (record { answer = given (record { number = s .next; place = freePlaceOf (s .filters) }); state = opened s pid })
+unfoldable pub openOf : State → ℕ → Choice → AfterOpen
+openOf s pid choice =
+    judge (λ n. record { answer = refused n; state = s }) (openRefusals s pid choice)
+    (record { answer = given (record { number = s .next; place = freePlaceOf (s .filters) }); state = opened s pid choice })

@@ -1,15 +1,18 @@
-// Open: a filter takes the lowest free place, and its PID's area or the lowest free one.
+// Open: a filter with its choice takes the lowest free place, and its PID's area or the lowest free one.
 ghost use mathlib.Core.Path.{_≡_};
 ghost use Prim.Native.Nat.{_<_};
 ghost use lib.ListN.{getD};
 ghost use Rattle.state.specs.State.{freeArea};
+ghost use Rattle.state.specs.Choice.{codeOf};
 ghost use Rattle.open_call.specs.Open.{areaFor, withUser, withFilter};
 ghost use Rattle.open_call.specs.Promises.{OpensFilter};
 use pid::Pid;
 use sound::is_sound;
 use state::AREAS;
 use state::Area;
+use state::Choice;
 use state::Filter;
+use state::LAST_CHOICE;
 use state::LAST_FILTER_PID;
 use state::LAST_NUMBER;
 use state::PLACES;
@@ -28,15 +31,19 @@ pub struct Opened {
     pub answer: Opening,
 }
 
-// A filter on a PID: its number and place, or the first refusal that applies.
-pub fn open(state: State, pid: Pid) -> Opened
-    ensures { λ r. ⌜ OpensFilter state (pid .0) r ⌝ }
+// A filter on a PID with a choice: its number and place, or the first refusal that applies.
+pub fn open(state: State, pid: Pid, choice: Choice) -> Opened
+    ensures { λ r. ⌜ OpensFilter state (pid .0) choice r ⌝ }
 {
     if !is_sound(state) {
         return unopened(state, 1);
     }
     if LAST_FILTER_PID < pid.0 {
         return unopened(state, 12);
+    }
+    let code = code_of(choice);
+    if LAST_CHOICE < code {
+        return unopened(state, 17);
     }
     if LAST_NUMBER < state.next {
         return unopened(state, 13);
@@ -52,7 +59,7 @@ pub fn open(state: State, pid: Pid) -> Opened
         return unopened(state, 15);
     }
     Opened {
-        state: with_filter(state, pid, area, place),
+        state: with_filter(state, pid, code, area, place),
         answer: Opening::Open {
             number: state.next as u16,
             place: place as u8,
@@ -67,6 +74,16 @@ fn unopened(state: State, number: u8) -> Opened
     Opened {
         state,
         answer: Opening::Refused(number),
+    }
+}
+
+// A choice as its number in a filter's record.
+fn code_of(choice: Choice) -> u16
+    ensures { λ r. ⌜ r ≡ codeOf choice ⌝ }
+{
+    match choice {
+        Choice::All => 0,
+        Choice::One(table) => table as u16 + 1,
     }
 }
 
@@ -94,10 +111,10 @@ fn with_user(area: Area, pid: Pid) -> Area
     }
 }
 
-// The state with a filter at this place on this area.
-fn with_filter(state: State, pid: Pid, area: usize, place: usize) -> State
+// The state with a filter of this choice at this place on this area.
+fn with_filter(state: State, pid: Pid, code: u16, area: usize, place: usize) -> State
     requires { ⌜ (area < 8) × (place < 32) × (state .next < 65536) × (getD (state .areas) area freeArea .users < 255) ⌝ }
-    ensures { λ r. ⌜ r ≡ withFilter state (pid .0) area place ⌝ }
+    ensures { λ r. ⌜ r ≡ withFilter state (pid .0) code area place ⌝ }
 {
     let mut areas = state.areas;
     let mut filters = state.filters;
@@ -107,6 +124,7 @@ fn with_filter(state: State, pid: Pid, area: usize, place: usize) -> State
     filters[place] = Filter {
         number: next as u16,
         area: area as u8,
+        choice: code,
     };
     State {
         areas,

@@ -19,6 +19,7 @@ use Rattle.state.specs.State.{standsOn, freeArea, freeFilter, isOpen, isUsed}
 use Rattle.state.specs.declared.Area.{Area}
 use Rattle.state.specs.declared.State.{State}
 use Rattle.sound.specs.Sound.{sound, soundArea, isZeroArea, soundFilter, soundNext, samePid, sameNumber, counted}
+use Rattle.sound.proofs.Places.{InOrder, open-tells}
 use Rattle.sound.proofs.Pass.{counted-at}
 
 -- ---- one area
@@ -91,15 +92,14 @@ users-are s k i h = counted-at (s .filters) 0 (s .areas) (k .users) i h ∙ ap (
 pub users-few : (s : State) → Clauses s → (i : ℕ) → i < length (s .areas) → getD (s .areas) i freeArea .users ≤ length (s .filters)
 users-few s k i h = let e = users-are s k i h in let most = count-le (standsOn i) (s .filters) in omega arith
 
--- an open filter stands on a used area
+-- an open filter is in order
+pub open-in-order : (s : State) → Clauses s → (j : ℕ) → j < length (s .filters) → isOpen (getD (s .filters) j freeFilter) ≡ true → InOrder (s .next) (s .areas) (getD (s .filters) j freeFilter)
+open-in-order s k j h o = open-tells (s .next) (s .areas) (getD (s .filters) j freeFilter) (all-at (soundFilter (s .next) (s .areas)) (s .filters) freeFilter (k .filters) j h) o
+
+-- so it stands on a used area
 pub open-stands : (s : State) → Clauses s → (j : ℕ) → j < length (s .filters) → isOpen (getD (s .filters) j freeFilter) ≡ true
     → isUsed (getD (s .areas) (getD (s .filters) j freeFilter .area) freeArea) ≡ true
-open-stands s k j h o =
-    let f = getD (s .filters) j freeFilter in
-    both-true (ltb (f .number) (s .next)) (isUsed (getD (s .areas) (f .area) freeArea))
-    (sym (ap (λ (b : Bool). cond b (ltb (f .number) (s .next) && isUsed (getD (s .areas) (f .area) freeArea)) (eqb (f .area) 0)) o)
-    ∙ all-at (soundFilter (s .next) (s .areas)) (s .filters) freeFilter (k .filters) j h)
-    .1
+open-stands s k j h o = open-in-order s k j h o .used
 
 -- and a used area is one of the list
 pub used-inside : (areas : List Area) (i : ℕ) → isUsed (getD areas i freeArea) ≡ true → i < length areas

@@ -1,3 +1,4 @@
+pub mod Places
 pub mod Pass
 pub mod Clauses
 pub mod Areas

@@ -9,7 +9,7 @@ use native.Mathlib.Numerals.{add-one}
 use native.Mathlib.Omega.{arith}
 use borrow.Author.Tests.{eq-eqb, ne-eqb, eqb-true, eqb-false, ltb-true, lt-ltb, not-true}
 use native.Mathlib.Decide.{ℕ-discrete, decLt}
-use lib.Dec.{eqb, ltb, lit<}
+use lib.Dec.{eqb, ltb, leb, lit<}
 use lib.ListN.{length, drop, getD, set, replicate, getD-replicate, length-set, List·getD-eq-default}
 use lib.Seq.{drop-cons, getD-set-same, getD-set-other}
 use Rattle.ground.specs.Walk.{all, apart, count}
@@ -19,8 +19,10 @@ use Rattle.ground.proofs.Kept.{Kept, kept-none, kept-one, kept-new, kept-met}
 use Rattle.state.specs.State.{isOpen, isUsed, standsOn, freeArea, freeFilter}
 use Rattle.state.specs.declared.Area.{Area}
 use Rattle.state.specs.declared.Filter.{Filter}
-use Rattle.sound.specs.Sound.{soundFilter, counted, sameNumber}
+use Rattle.state.proofs.Chosen.{sound-code}
+use Rattle.sound.specs.Sound.{soundFilter, isZeroFilter, counted, sameNumber}
 use Rattle.sound.specs.Steps.{isNew, numberKept, isZeroPlace, Counts, agree, fitsPlace, countedIn, metIn, isMet, classOf}
+use Rattle.sound.proofs.Places.{filter-case, open-tells, open-says}
 
 -- ---- counts and users
 pub agree-turn : (counts : List ℕ) (areas : List Area) (i : ℕ) → i < length counts → i < length areas
@@ -145,14 +147,15 @@ met-turn filters met i long new m = record { marked = marks; differ = differs }
 -- ---- the three clauses
 -- an area that does not exist has no users, so whoever stands on a used one stands on one of them
 sound-fits : (next : ℕ) (areas : List Area) (f : Filter) → length areas ≡ 8 → soundFilter next areas f ≡ true → fitsPlace next f ≡ true
-sound-fits next areas f long e = go (isOpen f) e
+sound-fits next areas f long e = go (isOpen f) refl
   where
-    go : (o : Bool) → cond o (ltb (f .number) next && isUsed (getD areas (f .area) freeArea)) (eqb (f .area) 0) ≡ true
-        → cond o (ltb (f .number) next && ltb (f .area) 8) (eqb (f .area) 0) ≡ true
-    go false e = e
-    go true e =
-        let parts = both-true (ltb (f .number) next) (isUsed (getD areas (f .area) freeArea)) e in
-        true-both (ltb (f .number) next) (ltb (f .area) 8) (parts .0) (inside (decLt (f .area) 8) (parts .1))
+    go : (o : Bool) → isOpen f ≡ o → cond o (ltb (f .number) next && ltb (f .area) 8 && leb (f .choice) 255) (isZeroFilter f) ≡ true
+    go false o = sym (filter-case next areas f o) ∙ e
+    go true o =
+        let k = open-tells next areas f e o in
+        true-both (ltb (f .number) next && ltb (f .area) 8) (leb (f .choice) 255)
+        (true-both (ltb (f .number) next) (ltb (f .area) 8) (lt-ltb (f .number) next (k .below)) (inside (decLt (f .area) 8) (k .used)))
+        (sym (sound-code (f .choice)) ∙ k .chosen)
       where
         inside : Dec (f .area < 8) → isUsed (getD areas (f .area) freeArea) ≡ true → ltb (f .area) 8 ≡ true
         inside (yes h) u = lt-ltb (f .area) 8 h
@@ -182,17 +185,23 @@ fits-sound : (next : ℕ) (areas : List Area) (filters : List Filter) (j : ℕ) 
     → fitsPlace next (getD filters j freeFilter) ≡ true → soundFilter next areas (getD filters j freeFilter) ≡ true
 fits-sound next areas filters j long h e q = go (isOpen (getD filters j freeFilter)) refl q
   where
-    go : (o : Bool) → isOpen (getD filters j freeFilter) ≡ o
-        → cond o (ltb (getD filters j freeFilter .number) next && ltb (getD filters j freeFilter .area) 8) (eqb (getD filters j freeFilter .area) 0) ≡ true
-        → cond o (ltb (getD filters j freeFilter .number) next && isUsed (getD areas (getD filters j freeFilter .area) freeArea)) (eqb (getD filters j freeFilter .area) 0) ≡ true
-    go false o q = q
+    f : Filter
+    f = getD filters j freeFilter
+
+    go : (o : Bool) → isOpen f ≡ o → cond o (ltb (f .number) next && ltb (f .area) 8 && leb (f .choice) 255) (isZeroFilter f) ≡ true → soundFilter next areas f ≡ true
+    go false o q = filter-case next areas f o ∙ q
     go true o q =
-        let f = getD filters j freeFilter in
-        let parts = both-true (ltb (f .number) next) (ltb (f .area) 8) q in
+        let whole = both-true (ltb (f .number) next && ltb (f .area) 8) (leb (f .choice) 255) q in
+        let parts = both-true (ltb (f .number) next) (ltb (f .area) 8) (whole .0) in
         let inside : f .area < length areas = rw long (ltb-true (f .area) 8 (parts .1)) in
         let users = counted-at filters 0 areas e (f .area) inside ∙ ap (λ (k : ℕ). count (standsOn k) filters) (zero-add (f .area)) in
         let some = stands-counted filters j (f .area) h (true-both (isOpen f) _ o (eq-eqb (f .area) (f .area) refl)) in
-        true-both (ltb (f .number) next) _ (parts .0) (ap not (ne-eqb (getD areas (f .area) freeArea .users) 0 (omega arith)))
+        open-says next areas f o
+        (record {
+          below = ltb-true (f .number) next (parts .0);
+          used = ap not (ne-eqb (getD areas (f .area) freeArea .users) 0 (omega arith));
+          chosen = sound-code (f .choice) ∙ whole .1;
+        })
 
 same-truth : (a b : Bool) → (a ≡ true → b ≡ true) → (b ≡ true → a ≡ true) → a ≡ b
 same-truth true b f g = sym (f refl)
@@ -221,7 +230,11 @@ places-unsound next areas filters long e = go (all (soundFilter next areas) filt
 pub open-inside : (next : ℕ) (f : Filter) → fitsPlace next f ≡ true → isOpen f ≡ true → f .area < 8
 open-inside next f e o =
     ltb-true (f .area) 8
-    (both-true (ltb (f .number) next) (ltb (f .area) 8) (sym (ap (λ (b : Bool). cond b (ltb (f .number) next && ltb (f .area) 8) (eqb (f .area) 0)) o) ∙ e) .1)
+    (both-true (ltb (f .number) next) (ltb (f .area) 8)
+    (both-true (ltb (f .number) next && ltb (f .area) 8) (leb (f .choice) 255)
+    (sym (ap (λ (b : Bool). cond b (ltb (f .number) next && ltb (f .area) 8 && leb (f .choice) 255) (isZeroFilter f)) o) ∙ e)
+    .0)
+    .1)
 
 -- one test before three others
 pub regrouped : (x a b c : Bool) → (((x && a) && b) && c) ≡ (x && ((a && b) && c))
@@ -269,19 +282,20 @@ kept-same f g e some =
     true-both (isOpen f) (eqb (f .number) (g .number)) (ap not (ne-eqb (f .number) 0 (λ z. some (sym e ∙ z)))) (eq-eqb (f .number) (g .number) e)
 
 -- ---- a place that is all zero
-pub zero-place : (f : Filter) → (not (eqb (f .number) 0) || not (eqb (f .area) 0)) ≡ false → isZeroPlace f ≡ true
-zero-place f = go (eqb (f .number) 0) (eqb (f .area) 0)
+pub zero-place : (f : Filter) → (not (eqb (f .number) 0) || not (eqb (f .area) 0) || not (eqb (f .choice) 0)) ≡ false → isZeroPlace f ≡ true
+zero-place f = go (eqb (f .number) 0) (eqb (f .area) 0) (eqb (f .choice) 0)
   where
-    go : (a b : Bool) → (not a || not b) ≡ false → (a && b) ≡ true
-    go true true e = refl
-    go true false e = sym e
-    go false b e = sym e
+    go : (a b c : Bool) → (not a || not b || not c) ≡ false → (a && (b && c)) ≡ true
+    go true true true e = refl
+    go true true false e = sym e
+    go true false c e = sym e
+    go false b c e = sym e
 
 zero-fits : (next : ℕ) (f : Filter) → isZeroPlace f ≡ true → fitsPlace next f ≡ true
-zero-fits next f e = let p = both-true (eqb (f .number) 0) (eqb (f .area) 0) e in rw (p .0) (p .1)
+zero-fits next f e = let p = both-true (eqb (f .number) 0) (isZeroFilter f) e in rw (p .0) (p .1)
 
 zero-stands : (k : ℕ) (f : Filter) → isZeroPlace f ≡ true → standsOn k f ≡ false
-zero-stands k f e = rw (both-true (eqb (f .number) 0) (eqb (f .area) 0) e .0)
+zero-stands k f e = rw (both-true (eqb (f .number) 0) (isZeroFilter f) e .0)
 
 zero-unlike : (f g : Filter) → isZeroPlace g ≡ true → sameNumber f g ≡ false
 zero-unlike f g e = go (sameNumber f g) refl
@@ -291,7 +305,7 @@ zero-unlike f g e = go (sameNumber f g) refl
     go true q =
         absurd
         (eqb-false (f .number) 0 (not-true _ (both-true (isOpen f) (eqb (f .number) (g .number)) q .0))
-        (same-kept f g q ∙ eqb-true (g .number) 0 (both-true (eqb (g .number) 0) (eqb (g .area) 0) e .0)))
+        (same-kept f g q ∙ eqb-true (g .number) 0 (both-true (eqb (g .number) 0) (isZeroFilter g) e .0)))
 
 -- ---- the pass over the places
 -- what is known once i places are passed

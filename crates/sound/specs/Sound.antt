@@ -8,6 +8,7 @@ use Rattle.ground.specs.House.{lastFilterPid}
 use Rattle.ground.specs.Walk.{all, apart, count}
 use Rattle.gather.specs.Memory.{heldOf, soundMarks}
 use Rattle.state.specs.State.{isUsed, isOpen, standsOn, freeArea}
+use Rattle.state.specs.Choice.{soundChoice, choiceOf}
 use Rattle.state.specs.declared.Area.{Area}
 use Rattle.state.specs.declared.Filter.{Filter}
 use Rattle.state.specs.declared.State.{State}
@@ -25,10 +26,14 @@ soundArea a = cond (isUsed a) (leb (a .pid .0) lastFilterPid && soundMarks (a .m
 abbrev pub samePid : Area → Area → Bool
 samePid a b = isUsed a && isUsed b && eqb (a .pid .0) (b .pid .0)
 
--- "open numbers .. are at least 1 and below the next number to give"; "every open filter stands on a used area"; "records of free .. places are all zero"
+-- "records of free .. places are all zero"; there the choice is all
+abbrev pub isZeroFilter : Filter → Bool
+isZeroFilter f = eqb (f .area) 0 && eqb (f .choice) 0
+
+-- "open numbers .. are at least 1 and below the next number to give"; "every open filter stands on a used area"; an open filter's choice is "one table_id, 0 to 254, or all" (document 02, ticket 2)
 abbrev pub soundFilter : ℕ → List Area → Filter → Bool
 soundFilter next areas f =
-    cond (isOpen f) (ltb (f .number) next && isUsed (getD areas (f .area) freeArea)) (eqb (f .area) 0)
+    cond (isOpen f) (ltb (f .number) next && isUsed (getD areas (f .area) freeArea) && soundChoice (choiceOf (f .choice))) (isZeroFilter f)
 
 -- two open filters with one number
 abbrev pub sameNumber : Filter → Filter → Bool

@@ -12,6 +12,7 @@ use gather::Marks;
 use state::AREAS;
 use state::Area;
 use state::Filter;
+use state::LAST_CHOICE;
 use state::LAST_FILTER_PID;
 use state::PLACES;
 use state::State;
@@ -59,9 +60,9 @@ fn fits_place(filter: Filter, next: u32) -> bool
 {
     let number = filter.number;
     if number != 0 {
-        return ((number as u32) < next) & (filter.area < 8);
+        return ((number as u32) < next) & (filter.area < 8) & (filter.choice <= LAST_CHOICE);
     }
-    filter.area == 0
+    (filter.area == 0) & (filter.choice == 0)
 }
 
 // An open filter counted at its area and met in its class; whether its class was met before.
@@ -90,7 +91,7 @@ fn end_of_places(filters: [Filter; PLACES]) -> usize
     let mut end: usize = PLACES;
     while 0 < end {
         let filter = filters[end - 1];
-        if (filter.number != 0) | (filter.area != 0) {
+        if (filter.number != 0) | (filter.area != 0) | (filter.choice != 0) {
             return end;
         }
         end -= 1;

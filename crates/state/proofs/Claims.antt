@@ -1,7 +1,8 @@
 -- Each promise is an equation with a definition, so its outcome is one.
 -- Assumes nothing.
 use Rattle.ground.proofs.Outcome.{determined}
-use Rattle.state.specs.State.{fresh, areaOf, freeAreaOf, freePlaceOf, placeOf, placesOn}
+use Rattle.state.specs.State.{fresh, areaOf, freeAreaOf, freePlaceOf, placeOf}
+use Rattle.state.specs.Choice.{placesFor}
 use Rattle.state.specs.Claims.{Claims}
 
 pub claims : Claims
@@ -12,5 +13,5 @@ claims =
       findsFreeArea = λ areas. determined (freeAreaOf areas);
       findsFreePlace = λ filters. determined (freePlaceOf filters);
       findsPlace = λ filters number. determined (placeOf number filters);
-      tellsPlaces = λ filters area. determined (placesOn area filters);
+      tellsPlaces = λ filters area table. determined (placesFor area table filters);
     }

@@ -1,3 +1,4 @@
 pub mod Found
+pub mod Chosen
 pub mod Places
 pub mod Claims

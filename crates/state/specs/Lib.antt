@@ -1,3 +1,4 @@
 pub mod State
+pub mod Choice
 pub mod Promises
 pub mod Claims

@@ -2,7 +2,8 @@
 use mathlib.Core.Path.{_≡_}
 use mathlib.Core.List.{List}
 use Prim.Native.Nat.{ℕ}
-use Rattle.state.specs.State.{fresh, areaOf, freeAreaOf, freePlaceOf, placeOf, placesOn}
+use Rattle.state.specs.State.{fresh, areaOf, freeAreaOf, freePlaceOf, placeOf}
+use Rattle.state.specs.Choice.{placesFor}
 use Rattle.state.specs.declared.Area.{Area}
 use Rattle.state.specs.declared.Filter.{Filter}
 use Rattle.state.specs.declared.State.{State}
@@ -27,6 +28,6 @@ FindsFreePlace filters r = r ≡ freePlaceOf filters
 abbrev pub FindsPlace : List Filter → ℕ → ℕ → Type 0
 FindsPlace filters number r = r ≡ placeOf number filters
 
--- `places_on`
-abbrev pub TellsPlaces : List Filter → ℕ → ℕ → Type 0
-TellsPlaces filters area r = r ≡ placesOn area filters
+-- `places_for`
+abbrev pub TellsPlaces : List Filter → ℕ → ℕ → ℕ → Type 0
+TellsPlaces filters area table r = r ≡ placesFor area table filters

@@ -5,7 +5,6 @@ use Prim.Native.Nat.{ℕ, _*_}
 use lib.Dec.{eqb}
 use lib.ListN.{replicate}
 use Rattle.ground.specs.House.{areaCount, areaBytes, placeCount}
-use Rattle.ground.specs.Set.{setOf}
 use Rattle.ground.specs.Walk.{find}
 use Rattle.gather.specs.Memory.{noMarks}
 use Rattle.state.specs.declared.Area.{Area}
@@ -36,7 +35,7 @@ abbrev pub freeArea : Area
 freeArea = record { pid = record { 0 = 0 }; users = 0; marks = noMarks }
 
 abbrev pub freeFilter : Filter
-freeFilter = record { number = 0; area = 0 }
+freeFilter = record { number = 0; area = 0; choice = 0 }
 
 -- "A fresh state has only free ones, and next number 1"
 abbrev pub fresh : State
@@ -61,7 +60,3 @@ freePlaceOf filters = find isFree filters
 -- the place of an open filter by its number, or the number of places where it is not open
 abbrev pub placeOf : ℕ → List Filter → ℕ
 placeOf number filters = find (λ f. isOpen f && eqb (f .number) number) filters
-
--- "the set of filter places on the PID as 32 bits"
-abbrev pub placesOn : ℕ → List Filter → ℕ
-placesOn i filters = setOf (standsOn i) filters

@@ -1,7 +1,7 @@
-// What the driver's state holds, a fresh one, the lowest area or place that passes a test, or the number of them where none does, and the set of places on an area.
+// What the driver's state holds, a fresh one, the lowest area or place that passes a test, or the number of them where none does, and the set of places that a section is for.
 ghost use mathlib.Core.Path.{_≡_};
 ghost use mathlib.Core.Bool.{cond};
-ghost use Rattle.state.specs.State.{standsOn};
+ghost use Rattle.state.specs.Choice.{isFor};
 ghost use Rattle.state.specs.Promises.{MakesFresh, FindsArea, FindsFreeArea, FindsFreePlace, FindsPlace, TellsPlaces};
 use gather::Marks;
 use pid::Pid;
@@ -28,10 +28,20 @@ pub struct Area {
     pub marks: Marks,
 }
 
-// A filter place, open where it has a number: the number, and the area that the filter stands on.
+// The number of a choice in a filter's record is at most this one, that of table_id 254.
+pub const LAST_CHOICE: u16 = 255;
+
+// What a filter lets through: every section, or those of one table_id.
+pub enum Choice {
+    All,
+    One(u8),
+}
+
+// A filter place, open where it has a number: the number, the area that the filter stands on, and its choice, 0 for all and 1 + table_id for one, so that any bytes are a record.
 pub struct Filter {
     pub number: u16,
     pub area: u8,
+    pub choice: u16,
 }
 
 // The driver's state: 8 areas, 32 filter places, and the next number to give.
@@ -57,7 +67,11 @@ pub fn fresh() -> State
         users: 0,
         marks,
     };
-    let filter = Filter { number: 0, area: 0 };
+    let filter = Filter {
+        number: 0,
+        area: 0,
+        choice: 0,
+    };
     State {
         areas: [area; AREAS],
         filters: [filter; PLACES],
@@ -126,25 +140,26 @@ pub fn place_of(filters: [Filter; PLACES], number: u16) -> usize
     PLACES
 }
 
-// Whether the filter at a place is open on this area, as a number.
-fn stands_on(filter: Filter, area: u8) -> u32
-    ensures { λ r. ⌜ r ≡ cond (standsOn area filter) 1 0 ⌝ }
+// Whether a section of this table_id on this area is for the filter at a place, as a number.
+fn is_for(filter: Filter, area: u8, table: u8) -> u32
+    ensures { λ r. ⌜ r ≡ cond (isFor area table filter) 1 0 ⌝ }
 {
-    if (filter.number != 0) & (filter.area == area) {
+    let stands = (filter.number != 0) & (filter.area == area);
+    if stands & ((filter.choice == 0) | (filter.choice == table as u16 + 1)) {
         return 1;
     }
     0
 }
 
-// The set of places open on this area, the first place the least significant bit.
-pub fn places_on(filters: [Filter; PLACES], area: u8) -> u32
-    ensures { λ r. ⌜ TellsPlaces filters area r ⌝ }
+// The set of places that a section of this table_id on this area is for, the first place the least significant bit.
+pub fn places_for(filters: [Filter; PLACES], area: u8, table: u8) -> u32
+    ensures { λ r. ⌜ TellsPlaces filters area table r ⌝ }
 {
     let mut places: u32 = 0;
     let mut i: usize = 0;
     while i < PLACES {
         let filter = filters[i];
-        places = places + (stands_on(filter, area) << (i as u32));
+        places = places + (is_for(filter, area, table) << (i as u32));
         i += 1;
     }
     places

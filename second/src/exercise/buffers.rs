@@ -1,13 +1,15 @@
-//! The buffers that are lent to packet calls.
+//! The buffers and the list that are lent to packet calls.
 
 use super::outcome::digest;
 
 const STORE_BUFFER: usize = 40_960;
 const OUTPUT_BUFFER: usize = 8_192;
+const LIST_PLACES: usize = 128;
 
 pub struct Buffers {
     pub store: Vec<u8>,
     pub output: Vec<u8>,
+    pub list: Vec<u32>,
 }
 
 impl Buffers {
@@ -15,6 +17,7 @@ impl Buffers {
         Buffers {
             store: vec![0; STORE_BUFFER],
             output: vec![0; OUTPUT_BUFFER],
+            list: vec![0; LIST_PLACES],
         }
     }
 }
@@ -29,11 +32,24 @@ pub fn write(buffer: &mut [u8], at: u64, bytes: &[u8]) -> Option<String> {
 
 /// What changed between two pictures of one buffer.
 pub fn changed(before: &[u8], after: &[u8]) -> String {
+    told_range(before, after, |bytes| digest(bytes).to_string())
+}
+
+/// What changed between two pictures of the list, every set from the first to the last change.
+pub fn changed_sets(before: &[u32], after: &[u32]) -> String {
+    told_range(before, after, |sets| {
+        let sets: Vec<String> = sets.iter().map(u32::to_string).collect();
+        sets.join(" ")
+    })
+}
+
+/// The first and the last place that differ, with what is told of all from the one to the other.
+fn told_range<T: PartialEq>(before: &[T], after: &[T], tell: impl Fn(&[T]) -> String) -> String {
     let differs = |at: &usize| before[*at] != after[*at];
     let places = 0..before.len().min(after.len());
     match (places.clone().find(differs), places.rev().find(differs)) {
         (Some(first), Some(last)) => {
-            format!("{} {} {}", first, last, digest(&after[first..=last]))
+            format!("{} {} {}", first, last, tell(&after[first..=last]))
         }
         _ => String::from("-"),
     }

@@ -10,17 +10,18 @@ pub struct Call {
 }
 
 /// Each word with the highest value of each number, and whether bytes come last.
-pub const LINES: [(&str, &[u64], bool); 29] = [
+pub const LINES: [(&str, &[u64], bool); 30] = [
     ("fresh", &[], false),
     ("area", &[7, 65_535, 255, 65_535, 255, 255, 255], false),
-    ("place", &[31, 65_535, 255], false),
+    ("place", &[31, 65_535, 255, 65_535], false),
     ("next", &[4_294_967_295], false),
     ("store", &[40_960], true),
     ("output", &[8_192], true),
+    ("list", &[127, 4_294_967_295], false),
     ("digest", &[], false),
-    ("open", &[65_535], false),
+    ("open", &[65_535, 256], false),
     ("close", &[65_535], false),
-    ("packet", &[40_960, 8_192], true),
+    ("packet", &[40_960, 8_192, 128], true),
     ("pid", &[65_535], false),
     ("alone", &[], true),
     ("pat", &[], true),

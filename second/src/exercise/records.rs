@@ -26,7 +26,26 @@ fn area_record(index: usize, area: &Area) -> String {
 }
 
 fn place_record(index: usize, place: &Place) -> String {
-    format!("place {} {} {}", index, place.number, place.area)
+    let table = table_of(place.choice);
+    format!("place {} {} {} {}", index, place.number, place.area, table)
+}
+
+/// A record's choice as scripts write it: a table_id, 256 for all, or a number that is no choice.
+pub fn table_of(choice: u16) -> u16 {
+    match choice {
+        0 => 256,
+        1..=256 => choice - 1,
+        _ => choice,
+    }
+}
+
+/// The number of a record's choice that a script writes so.
+fn choice_of(table: u16) -> u16 {
+    match table {
+        256 => 0,
+        0..=255 => table + 1,
+        _ => table,
+    }
 }
 
 pub fn set_area(state: &mut State, numbers: &[u64]) {
@@ -44,5 +63,6 @@ pub fn set_place(state: &mut State, numbers: &[u64]) {
     state.places[numbers[0] as usize] = Place {
         number: numbers[1] as u16,
         area: numbers[2] as u8,
+        choice: choice_of(numbers[3] as u16),
     };
 }

@@ -5,8 +5,8 @@ use super::script::{field, Script};
 use crate::exercise::LINES;
 
 pub fn generate(random: &mut Random, script: &mut Script) {
-    let line = if random.one_in(40) {
-        area_line(random)
+    let line = if random.one_in(20) {
+        counted_line(random)
     } else {
         any_line(random)
     };
@@ -20,13 +20,23 @@ pub fn generate(random: &mut Random, script: &mut Script) {
     }
 }
 
-/// The line of an area with 6, 7 or 8 numbers; the last is small, at REPEATED's limit or past it.
-fn area_line(random: &mut Random) -> Vec<u8> {
-    let mut fields = vec![String::from("area")];
-    for _ in 0..random.between(5, 7) {
+/// The words whose lines requests gave more numbers, or that came with one.
+const COUNTED: [&str; 5] = ["area", "place", "list", "open", "packet"];
+
+/// A line of such a word with one number too few, as many as it has or one too many; the last is small, at its limit or past it.
+fn counted_line(random: &mut Random) -> Vec<u8> {
+    let lines = LINES.iter().filter(|line| COUNTED.contains(&line.0));
+    let shapes: Vec<_> = lines.collect();
+    let (word, ranges, with_bytes) = *random.pick(&shapes);
+    let mut fields = vec![String::from(word)];
+    for _ in 0..random.between(ranges.len() - 2, ranges.len()) {
         fields.push(random.below(2).to_string());
     }
-    fields.push(random.pick(&[0, 1, 2, 255, 256]).to_string());
+    let limit = ranges[ranges.len() - 1];
+    fields.push(random.pick(&[0, 1, 2, limit, limit + 1]).to_string());
+    if with_bytes {
+        fields.push(field(&random.bytes(4)));
+    }
     fields.join(" ").into_bytes()
 }
 

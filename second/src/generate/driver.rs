@@ -29,8 +29,11 @@ const SCENARIOS: [(usize, Scenario); 11] = [
     (2, house::house),
 ];
 
-/// One scenario, and now and then a look at the whole buffers.
+/// One scenario, at times over a list filled before it, and now and then a look at the whole buffers.
 pub fn generate(random: &mut Random, script: &mut Script) {
+    if random.one_in(4) {
+        fill_list(random, script);
+    }
     let all: usize = SCENARIOS.iter().map(|(weight, _)| weight).sum();
     let mut left = random.below(all);
     for (weight, scenario) in SCENARIOS {
@@ -45,5 +48,19 @@ pub fn generate(random: &mut Random, script: &mut Script) {
         let bytes = random.bytes(16);
         script.set_up(&format!("output {} {}", at, super::script::field(&bytes)));
         script.set_up("digest");
+    }
+}
+
+/// Sets for some places of the list or for all, so that it shows which of them a call writes and which it leaves.
+fn fill_list(random: &mut Random, script: &mut Script) {
+    let (first, many) = if random.one_in(32) {
+        (0, 128)
+    } else {
+        (random.below(4), random.between(1, 8))
+    };
+    for place in first..first + many {
+        let any = random.next() as u32;
+        let set = random.pick(&[0, 1, 2, 64, u32::MAX, any]);
+        script.set_up(&format!("list {} {}", place, set));
     }
 }

@@ -1,16 +1,22 @@
-//! A recording as a script: a filter on each of its first PIDs, then its packets.
+//! A recording as a script: filters on each of its first PIDs, then its packets.
 
 use std::io::{self, Write};
 
 use super::script::Script;
 use crate::numbers_of_the_house::{AREAS, PACKET_BYTES};
+use crate::state::Choice;
 use crate::the_packet::read_packet;
+
+/// What the filters on a PID choose: all, and tables that recordings have.
+const CHOICES: [Choice; 4] = [Choice::All, Choice::One(0), Choice::One(2), Choice::One(78)];
 
 pub fn run(recording: &[u8], output: &mut dyn Write) -> io::Result<()> {
     let mut script = Script::default();
     script.set_up("fresh");
     for pid in first_pids(recording) {
-        script.call(&format!("open {}", pid));
+        for choice in CHOICES {
+            script.open(pid, choice);
+        }
     }
     for packet in recording.chunks(PACKET_BYTES) {
         script.packet(packet);

@@ -1,7 +1,11 @@
 //! The script under way, and how many of its lines are calls.
 
+use crate::exercise::table_of;
 use crate::numbers_of_the_house::STORE_BYTES;
-use crate::state::{Area, State};
+use crate::state::{Area, Choice, Place, State};
+
+/// How many places of the list a call is lent where none of its sizes is to be refused.
+const LISTS: [usize; 3] = [61, 62, 128];
 
 #[derive(Default)]
 pub struct Script {
@@ -25,12 +29,21 @@ impl Script {
         self.call(&format!("{} {}", words, field(bytes)));
     }
 
-    pub fn packet(&mut self, packet: &[u8]) {
-        self.packet_lent(STORE_BYTES, 8_192, packet);
+    pub fn open(&mut self, pid: u16, choice: Choice) {
+        let table = table_of(choice.number());
+        self.call(&format!("open {} {}", pid, table));
     }
 
-    pub fn packet_lent(&mut self, store: usize, output: usize, packet: &[u8]) {
-        self.call_with(&format!("packet {} {}", store, output), packet);
+    /// A packet call whose sizes are right, with one list after the other.
+    pub fn packet(&mut self, packet: &[u8]) {
+        let list = LISTS[self.calls % LISTS.len()];
+        self.packet_lent([STORE_BYTES, 8_192, list], packet);
+    }
+
+    /// A packet call that is lent so much of the store, the output and the list.
+    pub fn packet_lent(&mut self, lent: [usize; 3], packet: &[u8]) {
+        let [store, output, list] = lent;
+        self.call_with(&format!("packet {} {} {}", store, output, list), packet);
     }
 
     pub fn store(&mut self, at: usize, bytes: &[u8]) {
@@ -52,7 +65,7 @@ impl Script {
         }
         for (index, place) in after.places.iter().enumerate() {
             if *place != before.places[index] {
-                self.set_up(&format!("place {} {} {}", index, place.number, place.area));
+                self.place(index, place);
             }
         }
         if after.next != before.next {
@@ -64,6 +77,12 @@ impl Script {
         let counts = format!("{} {} {}", area.pid, area.users, area.held);
         let counters = format!("{} {} {}", area.seen, area.counter, area.repeated);
         self.set_up(&format!("area {} {} {}", index, counts, counters));
+    }
+
+    fn place(&mut self, index: usize, place: &Place) {
+        let filter = format!("{} {}", place.number, place.area);
+        let table = table_of(place.choice);
+        self.set_up(&format!("place {} {} {}", index, filter, table));
     }
 }
 

@@ -2,9 +2,20 @@
 
 use super::random::Random;
 
+/// The table_ids of most sections, so few that the choices of filters meet them.
+const TABLES: [u8; 4] = [0, 66, 78, 254];
+
+/// A table_id that a section can start with.
+pub fn table_id(random: &mut Random) -> u8 {
+    match random.below(4) {
+        0 => random.below(255) as u8,
+        _ => random.pick(&TABLES),
+    }
+}
+
 /// The three first bytes of a section.
 pub fn section_head(random: &mut Random, length: usize) -> [u8; 3] {
-    let table = random.below(255) as u8;
+    let table = table_id(random);
     let reserved = random.byte() & 0xF0;
     [table, reserved | (length >> 8) as u8, length as u8]
 }

@@ -86,8 +86,8 @@ fn only_bad_scripts_have_bad_lines() {
 #[test]
 fn outcomes_are_counted() {
     let mut counts = Counts::default();
-    counts.outcome("packet wanted 61 183 1 1 0 2 store - output - next 1");
-    counts.outcome("packet refused 11 store - output - next 1");
+    counts.outcome("packet wanted 61 183 1 0 2 61 store - output - sets - next 1");
+    counts.outcome("packet refused 11 store - output - sets - next 1");
     counts.outcome("bad");
     for name in ["wanted", "sections61", "jump", "cut2", "refused 11", "bad"] {
         assert_eq!(counts.get(name), 1, "{}", name);

@@ -5,7 +5,7 @@ use crate::coverage::Counts;
 /// A state with areas on PIDs 0 and 1, of which the first has the rest of its record given.
 fn state(rest: &str) -> String {
     format!(
-        "next 3 area 0 0 1 {} area 1 1 1 0 0 0 0 place 0 1 0 place 1 2 1",
+        "next 3 area 0 0 1 {} area 1 1 1 0 0 0 0 place 0 1 0 256 place 1 2 1 78",
         rest
     )
 }
@@ -17,7 +17,7 @@ fn repeated_and_stuck(outcomes: &[String]) -> (u64, u64) {
     (counts.get("repeated"), counts.get("stuck"))
 }
 
-const JUMP: &str = "packet wanted 0 0 1 1 0 1 0 store - output -";
+const JUMP: &str = "packet wanted 0 0 1 0 1 0 store - output - sets -";
 
 #[test]
 fn a_stuck_counter_is_counted() {
@@ -48,25 +48,52 @@ fn other_jumps_are_not_stuck() {
     assert_eq!(repeated_and_stuck(&lines), (0, 0));
     let other = jump("0 1 5 0").replace("area 1 1 1 0 0 0 0", "area 1 1 1 0 1 0 0");
     assert_eq!(repeated_and_stuck(&[marked.clone(), other]), (1, 0));
-    let original = jump("0 1 5 0").replace(JUMP, "packet wanted 0 0 1 0 0 0 0 store - output -");
+    let calm = "packet wanted 0 0 0 0 0 0 store - output - sets -";
+    let original = jump("0 1 5 0").replace(JUMP, calm);
     assert_eq!(repeated_and_stuck(&[marked, original]), (1, 0));
 }
 
 #[test]
 fn sections_begun_are_counted() {
     let cases = [
-        ("61 183 1 0 0 0 61", [1, 0, 0]),
-        ("60 180 1 0 0 0 61", [1, 1, 0]),
-        ("60 180 1 0 0 0 60", [0, 0, 0]),
-        ("0 0 1 0 0 0 1", [0, 0, 1]),
-        ("0 0 1 0 0 1 1", [0, 0, 1]),
-        ("0 0 1 0 0 0 0", [0, 0, 0]),
-        ("1 4 1 0 0 0 2", [0, 0, 0]),
+        ("61 183 0 0 0 61", [1, 0, 0]),
+        ("60 180 0 0 0 61", [1, 1, 0]),
+        ("60 180 0 0 0 60", [0, 0, 0]),
+        ("0 0 0 0 0 1", [0, 0, 1]),
+        ("0 0 0 0 1 1", [0, 0, 1]),
+        ("0 0 0 0 0 0", [0, 0, 0]),
+        ("1 4 0 0 0 2", [0, 0, 0]),
     ];
     for (told, expected) in cases {
         let mut counts = Counts::default();
-        counts.outcome(&format!("packet wanted {} store - output - next 1", told));
+        counts.outcome(&format!(
+            "packet wanted {} store - output - sets - next 1",
+            told
+        ));
         let found = ["begun61", "part61", "begun"].map(|mark| counts.get(mark));
         assert_eq!(found, expected, "{}", told);
+    }
+}
+
+#[test]
+fn sections_that_nobody_lets_through_are_counted() {
+    let cases = [
+        ("wanted 2 6 0 0 0 2", "0 1 0 4", 1),
+        ("wanted 2 6 0 0 0 2", "1 1 0", 1),
+        ("wanted 2 6 0 0 0 2", "0 1 4 1", 0),
+        ("wanted 2 6 0 0 0 2", "1 2 4 0", 0),
+        ("wanted 2 6 0 0 0 2", "-", 0),
+        ("wanted 0 0 0 0 0 0", "0 0 0", 0),
+        ("refused 3", "0 0 0", 0),
+        ("unwanted", "0 0 0", 0),
+    ];
+    for (told, sets, expected) in cases {
+        let mut counts = Counts::default();
+        let state = "next 2 area 0 0 1 0 1 0 0 place 0 1 0 256";
+        counts.outcome(&format!(
+            "packet {} store - output - sets {} {}",
+            told, sets, state
+        ));
+        assert_eq!(counts.get("nobody"), expected, "{} {}", told, sets);
     }
 }

@@ -1,9 +1,14 @@
 //! Open and close.
 
-use crate::filters_and_areas::{close, open};
+use crate::filters_and_areas::{self, close};
 use crate::refusal_numbers::Refusal;
-use crate::state::{Area, Place, State};
+use crate::state::{Area, Choice, Place, State};
 use crate::the_packet::make_pid;
+
+/// Opens a filter that lets all through.
+fn open(state: &mut State, pid: u16) -> Result<(u16, usize), Refusal> {
+    filters_and_areas::open(state, pid, Choice::All)
+}
 
 #[test]
 fn a_ninth_pid_is_refused_and_a_second_filter_is_not() {
@@ -65,5 +70,10 @@ fn the_area_goes_with_the_last_filter() {
     assert_eq!(close(&mut state, 3), Ok(()));
     assert_eq!(state.areas[0], Area::default());
     assert_eq!(open(&mut state, 7), Ok((4, 0)));
-    assert_eq!(state.places[0], Place { number: 4, area: 0 });
+    let place = Place {
+        number: 4,
+        area: 0,
+        choice: 0,
+    };
+    assert_eq!(state.places[0], place);
 }

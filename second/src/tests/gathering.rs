@@ -154,14 +154,30 @@ fn contradictions() {
 }
 
 #[test]
+fn lent_sizes() {
+    let mut driver = Driver::new();
+    let sizes = [
+        (32_768, 4_278, 61, 2),
+        (32_768, 8_192, 62, 2),
+        (32_767, 4_278, 61, 3),
+        (32_769, 4_278, 61, 3),
+        (32_768, 4_277, 61, 3),
+        (32_768, 4_278, 60, 3),
+        (32_768, 4_278, 0, 3),
+    ];
+    for (store, output, list, refusal) in sizes {
+        let (store, output) = (&mut vec![0; store], &mut vec![0; output]);
+        let lent = packet_call(&mut driver.state, store, output, &mut vec![0; list], &[]);
+        assert_eq!(lent, Err(Refusal(refusal)));
+    }
+}
+
+#[test]
 fn the_order_of_refusals() {
     let mut driver = Driver::new();
     let faults = [0x46, 0x9F, 0xFF, 0xC0];
     let short = driver.call(&faults);
     assert_eq!(short, Err(Refusal(2)));
-    let Driver { state, store, .. } = &mut driver;
-    let lent = packet_call(state, store, &mut [0; 4_277], &faults);
-    assert_eq!(lent, Err(Refusal(3)));
     let steps = [
         ([0x46, 0x9F, 0xFF, 0xC0, 200, 0x10], Err(Refusal(4))),
         ([0x47, 0x9F, 0xFF, 0xC0, 200, 0x10], Err(Refusal(5))),

@@ -24,6 +24,14 @@ fn document_01_as_a_script() {
 }
 
 #[test]
+fn request_02_as_a_script() {
+    answered(
+        include_str!("../../examples/request-02.script"),
+        include_str!("../../examples/request-02.expected"),
+    );
+}
+
+#[test]
 fn request_03_as_a_script() {
     answered(
         include_str!("../../examples/request-03.script"),
@@ -39,21 +47,26 @@ fn request_10_as_a_script() {
     );
 }
 
-const MALFORMED: [&str; 34] = [
+const MALFORMED: [&str; 49] = [
     "",
     " ",
-    "Open 1",
+    "Open 1 2",
     "open",
     "open ",
-    "open  1",
-    "open 1 ",
-    " open 1",
-    "open 1 2",
-    "open =01",
-    "open 65536",
-    "open 000000000000000000001",
-    "open +1",
-    "open 1\r",
+    "open 1",
+    "open  1 2",
+    "open 1 2 ",
+    " open 1 2",
+    "open 1 2 3",
+    "open =01 2",
+    "open 1 =02",
+    "open 65536 2",
+    "open 1 257",
+    "open 1 000000000000000000002",
+    "open +1 2",
+    "open 1 2\r",
+    "close",
+    "close 1 2",
     "apart 18446744073709551616 0",
     "area 8 0 0 0 0 0 0",
     "area 0 0 0 0 256 0 0",
@@ -61,12 +74,22 @@ const MALFORMED: [&str; 34] = [
     "area 0 0 0 0 0 0 256",
     "area 0 0 0 0 0 0",
     "area 0 0 0 0 0 0 0 0",
+    "place 0 0 0",
+    "place 0 0 0 0 0",
+    "place 0 0 0 65536",
+    "list 0",
+    "list 0 0 0",
+    "list 128 0",
+    "list 0 4294967296",
     "store 40960 =00",
     "store 40961 =",
     "store 18446744073709551615 =00",
     "output 8192 =00",
-    "packet 40961 0 =",
-    "packet 0 8193 =",
+    "packet 40961 0 0 =",
+    "packet 0 8193 0 =",
+    "packet 0 0 129 =",
+    "packet 0 0 =",
+    "packet 0 0 0 0 =",
     "crc =0",
     "crc =0A",
     "crc 00",
@@ -91,24 +114,51 @@ fn malformed_lines() {
 #[test]
 fn lines_at_their_limits() {
     let pairs = [
-        ("open 00000000000000008191", "open refused 12 next 1"),
+        ("open 00000000000000008191 255", "open refused 12 next 1"),
+        ("open 8190 00000000000000000255", "open refused 17 next 1"),
+        (
+            "open 0 256",
+            "open given 1 0 next 2 area 0 0 1 0 0 0 0 place 0 1 0 256",
+        ),
         ("apart 18446744073709551615 0", "apart refused 40"),
         ("store 40960 =", "store"),
         ("output 8191 =ff", "output"),
         ("next 4294967295", "next"),
         ("area 7 65535 255 65535 255 255 255", "area"),
-        ("packet 0 0 =", "packet refused 3 store - output - next 1"),
+        ("place 31 65535 255 65535", "place"),
+        ("list 127 4294967295", "list"),
+        (
+            "packet 40960 8192 128 =",
+            "packet refused 3 store - output - sets - next 1",
+        ),
         ("alone =", "alone refused 2 payload 0 1"),
         ("crc =", "crc wrong"),
     ];
     for (line, expected) in pairs {
         assert_eq!(outcome(line), expected);
     }
+}
+
+#[test]
+fn records_are_told_as_they_are_set() {
     let told = outcomes(&["area 7 65535 255 9 1 255 254", "close 0"]);
     let state = "next 1 area 7 65535 255 9 1 255 254";
     assert_eq!(told[1], format!("close refused 1 {}", state));
     let told = outcomes(&["area 7 0 0 0 0 0 1", "close 0"]);
     assert_eq!(told[1], "close refused 1 next 1 area 7 0 0 0 0 0 1");
+    for record in [
+        "3 0 0 0",
+        "3 0 0 255",
+        "3 0 0 257",
+        "3 9 8 256",
+        "3 0 1 256",
+    ] {
+        let line = format!("place {}", record);
+        let told = outcomes(&[&line, "close 0"]);
+        assert_eq!(told[1], format!("close refused 1 next 1 place {}", record));
+    }
+    let told = outcomes(&["place 3 0 0 256", "close 0"]);
+    assert_eq!(told[1], "close refused 16 next 1");
 }
 
 #[test]

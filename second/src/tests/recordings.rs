@@ -2,7 +2,7 @@
 
 use crate::filters_and_areas::open;
 use crate::from_payload_to_sections::{packet_call, Answer};
-use crate::state::State;
+use crate::state::{Choice, State};
 
 const RECORDING: &str = concat!(
     env!("CARGO_MANIFEST_DIR"),
@@ -14,13 +14,14 @@ fn one_hundred_and_sixty_seven_sections() {
     let bytes = std::fs::read(RECORDING).unwrap();
     let mut state = State::fresh();
     for pid in [0x00, 0x01, 0x10, 0x11, 0x12, 0x14] {
-        assert!(open(&mut state, pid).is_ok());
+        assert!(open(&mut state, pid, Choice::All).is_ok());
     }
     let mut store = vec![0; 32_768];
     let mut output = vec![0; 4_278];
+    let mut list = vec![0; 61];
     let (mut sections, mut jumps) = (0, 0);
     for packet in bytes.chunks(188) {
-        let answer = packet_call(&mut state, &mut store, &mut output, packet);
+        let answer = packet_call(&mut state, &mut store, &mut output, &mut list, packet);
         if let Ok(Answer::Wanted(wanted)) = answer {
             sections += wanted.sections;
             jumps += usize::from(wanted.jump);

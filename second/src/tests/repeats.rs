@@ -4,6 +4,7 @@ use super::driver::{Driver, Told, QUIET, REPEAT};
 use super::packet;
 use crate::filters_and_areas::{close, open};
 use crate::refusal_numbers::Refusal;
+use crate::state::Choice;
 
 /// The answer to a section of four bytes, and the same after a jump.
 const SECTION: Told = (1, 4, false, false, 0);
@@ -148,7 +149,8 @@ fn an_area_taken_anew_starts_with_an_original() {
         assert_eq!(driver.wanted(&whole(counter)), SECTION);
         assert_eq!(driver.wanted(&whole(counter)), REPEAT);
         assert_eq!(close(&mut driver.state, number), Ok(()));
-        assert_eq!(open(&mut driver.state, 0), Ok((number + 1, 0)));
+        let opened = open(&mut driver.state, 0, Choice::All);
+        assert_eq!(opened, Ok((number + 1, 0)));
         assert_eq!(driver.repeated(), 0);
     }
 }

@@ -4,13 +4,13 @@ use crate::filters_and_areas::{close, open};
 use crate::from_payload_to_sections::packet_call;
 use crate::refusal_numbers::Refusal;
 use crate::soundness::{self, sound, Clause, CLAUSES};
-use crate::state::{Area, Place, State};
+use crate::state::{Area, Choice, Place, State};
 
 /// Two PIDs, three filters, and on the second PID bytes held and a repeat seen.
 fn right() -> State {
     let mut state = State::fresh();
-    for pid in [0x10, 0x11, 0x10] {
-        assert!(open(&mut state, pid).is_ok());
+    for (pid, table) in [(0x10, 0), (0x11, 78), (0x10, 254)] {
+        assert!(open(&mut state, pid, Choice::One(table)).is_ok());
     }
     state.areas[1].seen = 1;
     state.areas[1].counter = 15;
@@ -26,9 +26,9 @@ fn breaks(state: State, clause: Clause) {
     let broken = CLAUSES.iter().filter(|clause| !clause(&state)).count();
     assert_eq!(broken, 1);
     let mut after = state.clone();
-    assert_eq!(open(&mut after, 0xFFFF), Err(Refusal(1)));
+    assert_eq!(open(&mut after, 0xFFFF, Choice::One(255)), Err(Refusal(1)));
     assert_eq!(close(&mut after, 0), Err(Refusal(1)));
-    let refused = packet_call(&mut after, &mut [], &mut [], &[]);
+    let refused = packet_call(&mut after, &mut [], &mut [], &mut [], &[]);
     assert_eq!(refused, Err(Refusal(1)));
     assert_eq!(after, state);
 }
@@ -157,11 +157,28 @@ fn filters_on_used_areas() {
     let mut state = right();
     state.next = 5;
     for area in [8, 255] {
-        state.places[9] = Place { number: 4, area };
+        state.places[9] = Place {
+            number: 4,
+            area,
+            choice: 0,
+        };
         breaks(state.clone(), soundness::open_filters_stand_on_used_areas);
     }
     state.places[9].area = 5;
     assert!(!soundness::open_filters_stand_on_used_areas(&state));
+}
+
+#[test]
+fn choices_of_open_filters() {
+    let mut state = right();
+    for choice in [0, 1, 79, 255] {
+        state.places[1].choice = choice;
+        assert!(sound(&state));
+    }
+    for choice in [256, 257, 65_535] {
+        state.places[1].choice = choice;
+        breaks(state.clone(), soundness::open_filters_chose_a_table_or_all);
+    }
 }
 
 #[test]
@@ -191,4 +208,9 @@ fn free_records() {
     let mut state = right();
     state.places[31].area = 1;
     breaks(state, soundness::free_records_are_zero);
+    for choice in [1, 255, 256, 65_535] {
+        let mut state = right();
+        state.places[31].choice = choice;
+        breaks(state, soundness::free_records_are_zero);
+    }
 }

@@ -1,5 +1,6 @@
 //! Held bytes that contradict their record in each way, or just do not.
 
+use super::super::choices::named_choice;
 use super::super::packets::any_packet;
 use super::super::random::Random;
 use super::super::script::Script;
@@ -40,7 +41,7 @@ pub fn contradiction(random: &mut Random, script: &mut Script) {
     }
     if random.one_in(3) {
         let other = filter_pid(random);
-        script.call(&format!("open {}", other));
+        script.open(other, named_choice(random));
         let packet = any_packet(random, other, 0);
         script.packet(&packet);
         script.call("close 1");

@@ -1,10 +1,11 @@
 //! Packets with one fault or several, so that the order of refusals is seen.
 
+use super::super::choices::choice;
 use super::super::packets::{any_packet, spoil};
 use super::super::random::Random;
 use super::super::script::Script;
 use super::states::filter_pid;
-use crate::numbers_of_the_house::{LEAST_OUTPUT_BYTES, STORE_BYTES};
+use crate::numbers_of_the_house::{LEAST_LIST_PLACES, LEAST_OUTPUT_BYTES, STORE_BYTES};
 
 /// The faults of the packet itself, put on in this order so that none undoes another.
 const FAULTS: [usize; 7] = [10, 8, 7, 6, 5, 4, 2];
@@ -13,7 +14,7 @@ pub fn fault(random: &mut Random, script: &mut Script) {
     let pid = filter_pid(random);
     script.set_up("fresh");
     if !random.one_in(6) {
-        script.call(&format!("open {}", pid));
+        script.open(pid, choice(random));
     }
     for counter in 0..random.between(3, 8) {
         let mut packet = any_packet(random, pid, counter as u8);
@@ -30,8 +31,8 @@ pub fn fault(random: &mut Random, script: &mut Script) {
         if random.one_in(12) {
             flip(random, &mut packet);
         }
-        let (store, output) = lent(random);
-        script.packet_lent(store, output, &packet);
+        let lent = lent(random);
+        script.packet_lent(lent, &packet);
     }
     if random.one_in(2) {
         script.call(&format!("close {}", random.between(0, 2)));
@@ -46,8 +47,8 @@ fn flip(random: &mut Random, packet: &mut [u8]) {
     }
 }
 
-/// The sizes of the lent store and output, mostly right ones.
-fn lent(random: &mut Random) -> (usize, usize) {
+/// The sizes of the lent store, output and list, mostly right ones.
+fn lent(random: &mut Random) -> [usize; 3] {
     let store = match random.below(8) {
         0 => random.pick(&[0, 1, 4_096, 32_767, 32_769, 40_960]),
         _ => STORE_BYTES,
@@ -58,5 +59,10 @@ fn lent(random: &mut Random) -> (usize, usize) {
         2..=4 => 8_192,
         _ => LEAST_OUTPUT_BYTES,
     };
-    (store, output)
+    let list = match random.below(12) {
+        0 => random.pick(&[0, 1, 60, 60]),
+        1..=4 => LEAST_LIST_PLACES,
+        _ => random.pick(&[62, 128, 128]),
+    };
+    [store, output, list]
 }

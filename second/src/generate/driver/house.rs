@@ -1,5 +1,6 @@
 //! A full house: all areas and places taken, freed and taken again.
 
+use super::super::choices::named_choice;
 use super::super::packets::any_packet;
 use super::super::random::Random;
 use super::super::script::Script;
@@ -29,9 +30,10 @@ pub fn house(random: &mut Random, script: &mut Script) {
             1 => leave(random, script, &mut state),
             _ => {
                 let pid = random.pick(&pids);
-                script.call(&format!("open {}", pid));
+                let choice = named_choice(random);
+                script.open(pid, choice);
                 // The generator follows the state only to know which numbers are open.
-                let _ = open(&mut state, pid);
+                let _ = open(&mut state, pid, choice);
             }
         }
     }

@@ -1,5 +1,6 @@
 //! The places where one section ends, another starts, or a packet ends in between.
 
+use super::super::choices::choice;
 use super::super::packets::{any_packet, counter_after, packet_around, Head};
 use super::super::payloads::{payload_room, pointed, PAYLOAD_BYTES};
 use super::super::random::Random;
@@ -64,7 +65,7 @@ fn follow(random: &mut Random, script: &mut Script, pid: u16, mut counter: u8) {
 pub fn longest(random: &mut Random, script: &mut Script) {
     let pid = filter_pid(random);
     script.set_up("fresh");
-    script.call(&format!("open {}", pid));
+    script.open(pid, choice(random));
     let counter = random.below(16) as u8;
     let cut = random.between(1, 3);
     let length = random.pick(&[0, 1, 4_092, 4_093, 4_094, 4_095]);

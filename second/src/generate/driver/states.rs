@@ -1,5 +1,6 @@
 //! Sound states set record by record, with held bytes that contradict nothing.
 
+use super::super::choices::{choice, named_choice};
 use super::super::packets::any_packet;
 use super::super::random::Random;
 use super::super::script::Script;
@@ -55,6 +56,7 @@ pub fn sound_state(random: &mut Random) -> State {
         state.places[*place] = Place {
             number,
             area: area as u8,
+            choice: choice(random).number(),
         };
     }
     for area in state.areas.iter_mut() {
@@ -67,12 +69,13 @@ pub fn sound_state(random: &mut Random) -> State {
 pub fn one_pid(random: &mut Random, pid: u16, held: usize, counter: u8) -> (State, usize) {
     let mut state = State::fresh();
     let index = random.below(AREAS);
-    let filters = random.pick(&[1, 1, 1, 2, 5]);
+    let filters = random.pick(&[1, 1, 2, 3, 5]);
     for number in 1..=filters {
         let place = (random.below(5) + 6 * number) % PLACES;
         state.places[place] = Place {
             number: number as u16,
             area: index as u8,
+            choice: choice(random).number(),
         };
     }
     state.next = filters as u32 + 1;
@@ -188,7 +191,7 @@ pub fn set_state(random: &mut Random, script: &mut Script) {
                 let known = wanted_pid(random, &state);
                 let other = filter_pid(random);
                 let pid = random.pick(&[known, other, 0x1FFF, 0x1FFE]);
-                script.call(&format!("open {}", pid));
+                script.open(pid, named_choice(random));
             }
             1 => script.call(&format!("close {}", some_number(random, &state))),
             _ => {

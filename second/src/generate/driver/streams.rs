@@ -1,5 +1,6 @@
 //! Streams of sections on several PIDs, whole or damaged.
 
+use super::super::choices::{choice, named_choice};
 use super::super::packets::{any_packet, packet_around, spoil, Head};
 use super::super::payloads::loads;
 use super::super::random::Random;
@@ -12,7 +13,9 @@ pub fn stream(random: &mut Random, script: &mut Script) {
     let pids: Vec<u16> = (0..kinds).map(|_| filter_pid(random)).collect();
     script.set_up("fresh");
     for pid in &pids {
-        script.call(&format!("open {}", pid));
+        for _ in 0..random.pick(&[1, 1, 3]) {
+            script.open(*pid, choice(random));
+        }
     }
     let mut queues = Vec::new();
     for pid in &pids {
@@ -24,7 +27,7 @@ pub fn stream(random: &mut Random, script: &mut Script) {
     for packet in packets {
         script.packet(&packet);
         if random.one_in(25) {
-            script.call(&format!("open {}", random.pick(&pids)));
+            script.open(random.pick(&pids), named_choice(random));
         }
         if random.one_in(25) {
             script.call(&format!("close {}", random.between(1, kinds + 3)));

@@ -1,5 +1,6 @@
 //! Counters that stand still, on areas taken anew and on records with or without the mark of a repeat.
 
+use super::super::choices::choice;
 use super::super::packets::{counter_after, packet_around, packet_with, spoil, Head};
 use super::super::payloads::payload_room;
 use super::super::random::Random;
@@ -13,8 +14,8 @@ pub fn bursts(random: &mut Random, script: &mut Script) {
     let mut counter = random.below(16) as u8;
     let mut number = 2;
     script.set_up("fresh");
-    script.call(&format!("open {}", other));
-    script.call(&format!("open {}", pid));
+    script.open(other, choice(random));
+    script.open(pid, choice(random));
     for _ in 0..random.between(1, 4) {
         let queues = vec![burst(random, pid, counter), burst(random, other, 15)];
         for packet in interleaved(random, queues) {
@@ -22,7 +23,7 @@ pub fn bursts(random: &mut Random, script: &mut Script) {
         }
         if random.one_in(4) {
             script.call(&format!("close {}", number));
-            script.call(&format!("open {}", pid));
+            script.open(pid, choice(random));
             number += 1;
         }
         counter = counter_after(random, counter) % 16;

@@ -1,5 +1,6 @@
 //! States that break one clause of soundness, and states shaken at random.
 
+use super::super::choices::{choice, named_choice, no_choice};
 use super::super::packets::any_packet;
 use super::super::random::Random;
 use super::super::script::Script;
@@ -8,7 +9,9 @@ use super::states::{
 };
 use crate::filters_and_areas::open;
 use crate::from_payload_to_sections::packet_call;
-use crate::numbers_of_the_house::{AREAS, LEAST_OUTPUT_BYTES, PLACES, STORE_BYTES};
+use crate::numbers_of_the_house::{
+    AREAS, LEAST_LIST_PLACES, LEAST_OUTPUT_BYTES, PLACES, STORE_BYTES,
+};
 use crate::soundness::{self, Clause, CLAUSES};
 use crate::state::{Area, Place, State};
 
@@ -35,6 +38,7 @@ const BREAKS: [(Clause, Break); CLAUSES.len()] = [
     (soundness::marks_of_a_counter_are_0_or_1, break_marks),
     (soundness::marks_of_a_repeat_are_0_or_1, break_repeats),
     (soundness::open_filters_stand_on_used_areas, break_standing),
+    (soundness::open_filters_chose_a_table_or_all, break_choices),
     (soundness::free_records_are_zero, break_free),
 ];
 
@@ -90,6 +94,7 @@ fn record_state(
 fn called_state(random: &mut Random, script: &mut Script) -> State {
     let mut state = State::fresh();
     let (mut store, mut output) = (vec![0; STORE_BYTES], vec![0; LEAST_OUTPUT_BYTES]);
+    let mut list = vec![0; LEAST_LIST_PLACES];
     script.set_up("fresh");
     let pids: Vec<u16> = (0..random.between(1, 5))
         .map(|_| filter_pid(random))
@@ -97,13 +102,14 @@ fn called_state(random: &mut Random, script: &mut Script) -> State {
     for step in 0..random.between(3, 14) {
         let pid = random.pick(&pids);
         if step < 2 || random.one_in(3) {
-            script.call(&format!("open {}", pid));
+            let choice = named_choice(random);
+            script.open(pid, choice);
             // A refusal leaves the state as it is, here as in the script.
-            let _ = open(&mut state, pid);
+            let _ = open(&mut state, pid, choice);
         } else {
             let packet = any_packet(random, pid, counter_before(&state, pid));
             script.packet(&packet);
-            let _ = packet_call(&mut state, &mut store, &mut output, &packet);
+            let _ = packet_call(&mut state, &mut store, &mut output, &mut list, &packet);
         }
     }
     state
@@ -121,17 +127,17 @@ fn tamed(state: &State) -> State {
 fn every_call(random: &mut Random, script: &mut Script, state: &State) {
     let known = wanted_pid(random, state);
     let other = filter_pid(random);
-    script.call(&format!(
-        "open {}",
-        random.pick(&[known, known, other, 0x1FFF])
-    ));
+    let pid = random.pick(&[known, known, other, 0x1FFF]);
+    script.open(pid, named_choice(random));
     script.call(&format!("close {}", some_number(random, state)));
     let counter = counter_before(state, known);
     let packet = any_packet(random, known, counter);
     script.packet(&packet);
     if random.one_in(4) {
         let store = random.pick(&[0, 32_767, 32_768]);
-        script.packet_lent(store, random.pick(&[0, 4_277, 4_278]), &packet[..100]);
+        let output = random.pick(&[0, 4_277, 4_278]);
+        let list = random.pick(&[0, 60, 61]);
+        script.packet_lent([store, output, list], &packet[..100]);
     }
 }
 
@@ -267,14 +273,21 @@ fn break_standing(random: &mut Random, state: &mut State) {
         state.places[free] = Place {
             number: random.between(1, state.next as usize) as u16,
             area: random.pick(&[8, 9, 40, 255]),
+            choice: choice(random).number(),
         };
+    }
+}
+
+fn break_choices(random: &mut Random, state: &mut State) {
+    if let Some(open) = chosen_places(random, state).open {
+        state.places[open].choice = no_choice(random);
     }
 }
 
 fn break_free(random: &mut Random, state: &mut State) {
     let area = some_area(random, state, |area| !area.used());
     let place = some_place(random, state, false);
-    match (random.below(6), area, place) {
+    match (random.below(8), area, place) {
         (0, Some(area), _) => state.areas[area].pid = random.pick(&[1, 0x1FFE, 0xFFFF]),
         (1, Some(area), _) => state.areas[area].seen = random.pick(&[1, 2, 255]),
         (2, Some(area), _) => {
@@ -286,7 +299,11 @@ fn break_free(random: &mut Random, state: &mut State) {
             state.areas[area].counter = random.pick(&[1, 15]);
         }
         (4, Some(area), _) => state.areas[area].repeated = random.pick(&[1, 1, 2, 255]),
-        (_, _, Some(place)) => state.places[place].area = random.pick(&[1, 7, 8, 255]),
+        (5, _, Some(place)) => state.places[place].area = random.pick(&[1, 7, 8, 255]),
+        (_, _, Some(place)) => {
+            let past = no_choice(random);
+            state.places[place].choice = random.pick(&[1, 67, 79, 255, past]);
+        }
         _ => {}
     }
 }
@@ -309,6 +326,7 @@ pub fn shaken(random: &mut Random, script: &mut Script) {
             state.places[random.below(PLACES)] = Place {
                 number: random.pick(&[0, 1, 2, 40, 65_535]),
                 area: random.below(9) as u8,
+                choice: random.pick(&[0, 0, 1, 79, 255, 256, 257]),
             };
         }
     }

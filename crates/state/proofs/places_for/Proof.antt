@@ -7,16 +7,16 @@ use native.Mathlib.Nat.{zero-add, one-mul}
 use lib.ListN.{length, drop}
 use borrow.Author.Needs.{needs}
 use Rattle.ground.proofs.Set.{set-ends}
-use Rattle.state.specs.State.{standsOn, placesOn}
+use Rattle.state.specs.Choice.{isFor, placesFor}
 use Rattle.state.proofs.Places.{places-go, places-room}
-use Rattle.state.proofs.places_on.Statement.{statement}
-use Rattle.state.proofs.places_on.Tie as tie
+use Rattle.state.proofs.places_for.Statement.{statement}
+use Rattle.state.proofs.places_for.Tie as tie
 
 abbrev Inv-loop : tie.InvT-loop
-Inv-loop area filters places₀ i₀ places i = (i ≤ 32) × (places + 2 ^ i * placesOn area (drop i filters) ≡ placesOn area filters)
+Inv-loop area table filters places₀ i₀ places i = (i ≤ 32) × (places + 2 ^ i * placesFor area table (drop i filters) ≡ placesFor area table filters)
 
 abbrev μ-loop : tie.MeasureT-loop
-μ-loop area filters places₀ i₀ places i = 32 - i
+μ-loop area table filters places₀ i₀ places i = 32 - i
 
 loop-holds : tie.Need-loop-holds Inv-loop μ-loop
 loop-holds c = (omega arith, zero-add _ ∙ one-mul _)
@@ -27,8 +27,8 @@ mul-filter c = search needs
 array-copy-out-filter : tie.Need-array-copy-out-filter Inv-loop μ-loop
 array-copy-out-filter c = search needs
 
-stands-on-requires : tie.Need-stands-on-requires Inv-loop μ-loop
-stands-on-requires c κs = search needs
+is-for-requires : tie.Need-is-for-requires Inv-loop μ-loop
+is-for-requires c κs = search needs
 
 cast-places : tie.Need-cast-places Inv-loop μ-loop
 cast-places c = search needs
@@ -41,7 +41,7 @@ add-places c =
     let a = c .before .before .before .before .args in
     let l = c .before .before .before .loop in
     let long : length (a .t1) ≡ 32 = search needs in
-    let room = places-room (a .area) (a .t1) (l .i) (l .places) (c .stands-on .result) long (c .before .before .loop-test .taken) (l .inv .1) (c .stands-on .ensures) in
+    let room = places-room (a .area) (a .table) (a .t1) (l .i) (l .places) (c .is-for .result) long (c .before .before .loop-test .taken) (l .inv .1) (c .is-for .ensures) in
     omega arith
 
 add-i : tie.Need-add-i Inv-loop μ-loop
@@ -56,16 +56,16 @@ loop-again c =
     let l = c .before .before .before .loop in
     let long : length (a .t1) ≡ 32 = search needs in (
       omega arith,
-      places-go (a .area) (a .t1) (l .i) (l .places) (c .stands-on .result) long (c .before .before .loop-test .taken) (l .inv .1) (c .stands-on .ensures),
+      places-go (a .area) (a .table) (a .t1) (l .i) (l .places) (c .is-for .result) long (c .before .before .loop-test .taken) (l .inv .1) (c .is-for .ensures),
     )
 
 returns : tie.Need-returns Inv-loop μ-loop
 returns c =
     let a = c .before .before .args in
     let long : length (a .t1) ≡ 32 = search needs in
-    set-ends (standsOn (a .area)) (a .t1) (c .before .loop .i) _ _ (c .before .loop .inv .1) (omega arith)
+    set-ends (isFor (a .area) (a .table)) (a .t1) (c .before .loop .i) _ _ (c .before .loop .inv .1) (omega arith)
 
-pub places-on-spec : {M : Type 1} → statement M
-places-on-spec =
+pub places-for-spec : {M : Type 1} → statement M
+places-for-spec =
     tie.close
-    (tie.spec Inv-loop μ-loop loop-holds mul-filter array-copy-out-filter stands-on-requires cast-places shl-places add-places add-i loop-less loop-again returns)
+    (tie.spec Inv-loop μ-loop loop-holds mul-filter array-copy-out-filter is-for-requires cast-places shl-places add-places add-i loop-less loop-again returns)
