@@ -59,9 +59,7 @@ impl Place {
 
     /// Whether the record's choice is all or this table.
     pub fn lets(&self, table: u8) -> bool {
-        [Choice::All, Choice::One(table)]
-            .iter()
-            .any(|choice| choice.number() == self.choice)
+        self.choice == Choice::All.number() || self.choice == Choice::One(table).number()
     }
 }
 

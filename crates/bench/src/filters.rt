@@ -1,13 +1,15 @@
 // The filters of a scenario: one on one PID, or 32 on 8 PIDs.
 ghost use Prim.Native.Nat.{_<_};
 use crate::stream::FIRST_PID;
+use crate::stream::TABLE;
+use driver::Choice;
 use driver::Opening;
 use driver::State;
 use pid::Pid;
 
 // A filter opened on a PID and closed again: its number is used up.
 fn use_one(state: State, pid: Pid) -> State {
-    let opened = driver::open(state, pid);
+    let opened = driver::open(state, pid, Choice::All);
     let answer = opened.answer;
     let state = opened.state;
     match answer {
@@ -41,9 +43,20 @@ fn between(numbers: u8, i: u16) -> u16 {
     0
 }
 
+// What a filter lets through: the first on each PID all, the second the sections of the stream, the others none of them.
+fn choice_of(i: u16) -> Choice {
+    if i < 8 {
+        return Choice::All;
+    }
+    if i < 16 {
+        return Choice::One(TABLE);
+    }
+    Choice::One(0)
+}
+
 // A filter more, on the next of 8 PIDs.
 fn with_next(state: State, i: u16, numbers: u8) -> State {
-    let opened = driver::open(state, Pid(FIRST_PID + i % 8));
+    let opened = driver::open(state, Pid(FIRST_PID + i % 8), choice_of(i));
     let next = opened.state;
     if i < 31 {
         return use_up(next, Pid(FIRST_PID), between(numbers, i));

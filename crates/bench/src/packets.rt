@@ -13,21 +13,24 @@ pub(crate) struct Sums {
     pub(crate) begun: u64,
 }
 
+// The list of sets.
+type List = [u32; driver::LEAST_LIST];
+
 // What goes from packet to packet.
 struct Run {
     state: State,
     sums: Sums,
 }
 
-// The sums with a packet's answer.
-fn with_answer(sums: Sums, answer: Handling) -> Sums {
+// The sums with a packet's answer, and with the first set of the list after it.
+fn with_answer(sums: Sums, answer: Handling, set: u32) -> Sums {
     let packets = std::num::wrapping_add_u64(sums.packets, 1);
     match answer {
         Handling::Wanted(report) => Sums {
             packets,
             sections: std::num::wrapping_add_u64(sums.sections, report.sections as u64),
             bytes: std::num::wrapping_add_u64(sums.bytes, report.bytes as u64),
-            sets: std::num::wrapping_add_u64(sums.sets, report.places as u64),
+            sets: std::num::wrapping_add_u64(sums.sets, set as u64),
             begun: std::num::wrapping_add_u64(sums.begun, report.begun as u64),
         },
         _ => Sums {
@@ -41,16 +44,16 @@ fn with_answer(sums: Sums, answer: Handling) -> Sums {
 }
 
 // All packets of the stream, one after the other.
-fn round(run: Run, packets: &[u8], store: &mut [u8], out: &mut [u8]) -> Run {
+fn round(run: Run, packets: &[u8], store: &mut [u8], out: &mut [u8], sets: &mut List) -> Run {
     let mut state = run.state;
     let mut sums = run.sums;
     let mut at: usize = 0;
     while PACKET_BYTES <= packets.len() - at {
         let end = at + PACKET_BYTES;
-        let handled = driver::packet(state, &packets[at..end], store, out);
+        let handled = driver::packet(state, &packets[at..end], store, out, sets);
         state = handled.state;
         let answer = handled.answer;
-        sums = with_answer(sums, answer);
+        sums = with_answer(sums, answer, sets[0]);
         at = end;
     }
     Run { state, sums }
@@ -62,6 +65,7 @@ pub(crate) fn handed_in(state: State, share: u8, is_many: bool, rounds: u8) -> S
     stream::make(&mut packets, share, is_many);
     let mut store = [0u8; driver::STORE_BYTES];
     let mut out = [0u8; gather::LEAST_OUTPUT];
+    let mut sets: List = [0; driver::LEAST_LIST];
     let mut run = Run {
         state,
         sums: Sums {
@@ -74,7 +78,7 @@ pub(crate) fn handed_in(state: State, share: u8, is_many: bool, rounds: u8) -> S
     };
     let mut left = rounds;
     while 0 < left {
-        run = round(run, &packets, &mut store, &mut out);
+        run = round(run, &packets, &mut store, &mut out, &mut sets);
         left -= 1;
     }
     run.sums

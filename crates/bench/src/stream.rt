@@ -14,6 +14,9 @@ type Bytes = [u8; PACKET_BYTES];
 // The first PID that is wanted.
 pub(crate) const FIRST_PID: u16 = 0x100;
 
+// The table_id of the sections.
+pub(crate) const TABLE: u8 = 0x80;
+
 // The PID that no filter is open on.
 const OTHER_PID: u16 = 0x200;
 
@@ -76,7 +79,7 @@ fn section(p: &mut Bytes, at: usize, size: usize)
     requires { ⌜ (at + 2 < 188) × (3 ≤ size) × (size ≤ 1024) ⌝ }
 {
     let length = size - 3;
-    p[at] = 0x80;
+    p[at] = TABLE;
     p[at + 1] = 0x30 + (length / 256) as u8;
     p[at + 2] = (length % 256) as u8;
 }

@@ -7,19 +7,19 @@ use Prim.Native.Nat.{ℕ, _+_, _-_, _<_}
 use native.Mathlib.Decide.{ℕ-discrete}
 use native.Mathlib.Omega.{arith}
 use borrow.Author.Tests.{eq-eqb, ne-eqb}
-use lib.Dec.{eqb}
+use lib.Dec.{ltb, eqb}
 use lib.ListN.{length, getD, set, length-set}
 use lib.Seq.{getD-set-same, getD-set-other}
 use Rattle.ground.specs.Walk.{count}
-use Rattle.ground.proofs.Test.{true-both}
+use Rattle.ground.proofs.Test.{both-true, true-both}
 use Rattle.ground.proofs.Walk.{all-at, all-of, all-set, apart-set, total-set}
 use Rattle.state.specs.State.{isUsed, isOpen, standsOn, freeArea, freeFilter, hasPid}
 use Rattle.state.specs.declared.Area.{Area}
 use Rattle.state.specs.declared.Filter.{Filter}
 use Rattle.state.specs.declared.State.{State}
 use Rattle.sound.specs.Sound.{soundArea, soundFilter, samePid, sameNumber}
+use Rattle.sound.proofs.Choices.{choices-set}
 use Rattle.sound.proofs.Pass.{counted-all, stands-counted}
-use Rattle.sound.proofs.Places.{InOrder, filter-still}
 use Rattle.sound.proofs.Clauses.{Clauses, users-are, open-stands, used-inside, used-some, used-sound}
 use Rattle.sound.proofs.Pids.{only-one, lonely}
 use Rattle.close_call.specs.Close.{withoutUser, areaAt, withoutFilter}
@@ -57,17 +57,19 @@ never false = refl
 open-sound : (next : ℕ) (areas after : List Area) (filters : List Filter) (j : ℕ) → j < length filters → length after ≡ length areas
     → ((i : ℕ) → i < length after → getD after i freeArea .users ≡ count (standsOn i) filters)
     → soundFilter next areas (getD filters j freeFilter) ≡ true → soundFilter next after (getD filters j freeFilter) ≡ true
-open-sound next areas after filters j h long right = filter-still next next areas after f still
+open-sound next areas after filters j h long right e = go (isOpen (getD filters j freeFilter)) refl e
   where
-    f : Filter
-    f = getD filters j freeFilter
-
-    still : isOpen f ≡ true → InOrder next areas f → InOrder next after f
-    still q o =
-        let inside : f .area < length after = rw long (used-inside areas (f .area) (o .used)) in
+    go : (b : Bool) → isOpen (getD filters j freeFilter) ≡ b
+        → cond b (ltb (getD filters j freeFilter .number) next && isUsed (getD areas (getD filters j freeFilter .area) freeArea)) (eqb (getD filters j freeFilter .area) 0) ≡ true
+        → cond b (ltb (getD filters j freeFilter .number) next && isUsed (getD after (getD filters j freeFilter .area) freeArea)) (eqb (getD filters j freeFilter .area) 0) ≡ true
+    go false q e = e
+    go true q e =
+        let f = getD filters j freeFilter in
+        let parts = both-true (ltb (f .number) next) (isUsed (getD areas (f .area) freeArea)) e in
+        let inside : f .area < length after = rw long (used-inside areas (f .area) (parts .1)) in
         let counted-there = stands-counted filters j (f .area) h (true-both (isOpen f) _ q (eq-eqb (f .area) (f .area) refl)) in
         let users = right (f .area) inside in
-        record { below = o .below; used = ap not (ne-eqb (getD after (f .area) freeArea .users) 0 (omega arith)); chosen = o .chosen }
+        true-both (ltb (f .number) next) _ (parts .0) (ap not (ne-eqb (getD after (f .area) freeArea .users) 0 (omega arith)))
 
 module _ (s : State) (p : ℕ) (k : Clauses s) (hp : p < length (s .filters)) (o : isOpen (getD (s .filters) p freeFilter) ≡ true) where
   abbrev area : Area
@@ -162,5 +164,6 @@ module _ (s : State) (p : ℕ) (k : Clauses s) (hp : p < length (s .filters)) (o
         pids = apart-set samePid (s .areas) (areaAt s p) area freeArea (k .pids) alone;
         filters = all-of (soundFilter (s .next) (set (s .areas) (areaAt s p) area)) (set (s .filters) p freeFilter) freeFilter (λ j h. asGiven j (rw length-set at h));
         numbers = apart-set sameNumber (s .filters) p freeFilter freeFilter (k .numbers) (λ j h n. (refl, never (eqb (getD (s .filters) j freeFilter .number) 0)));
+        choices = choices-set (s .filters) (s .choices) p freeFilter 0 hp (k .choices) refl;
         users = counted-all (set (s .filters) p freeFilter) (set (s .areas) (areaAt s p) area) users-right;
       }

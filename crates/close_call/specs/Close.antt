@@ -45,6 +45,7 @@ withoutFilter s place =
     record {
       areas = set (s .areas) (areaAt s place) (withoutUser (getD (s .areas) (areaAt s place) freeArea));
       filters = set (s .filters) place freeFilter;
+      choices = set (s .choices) place 0;
       next = s .next;
     }
 

@@ -86,18 +86,17 @@ fn without_filter(state: State, place: usize) -> State
 {
     let mut areas = state.areas;
     let mut filters = state.filters;
+    let mut choices = state.choices;
     let filter = filters[place];
     let area = filter.area as usize;
     let own = areas[area];
     areas[area] = without_user(own);
-    filters[place] = Filter {
-        number: 0,
-        area: 0,
-        choice: 0,
-    };
+    filters[place] = Filter { number: 0, area: 0 };
+    choices[place] = 0;
     State {
         areas,
         filters,
+        choices,
         next: state.next,
     }
 }

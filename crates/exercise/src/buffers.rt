@@ -1,7 +1,8 @@
-// The buffers that every line finds, and what it changes in them.
+// The buffers and the list that every line finds, and what it changes in them.
 ghost use Prim.Native.Nat.{_≤_, _<_};
 ghost use lib.ListN.{length};
 use crate::line::Line;
+use crate::line::thirty_two_bits;
 use crate::outcome;
 
 // The bytes of a line.
@@ -12,6 +13,9 @@ pub(crate) type Store = [u8; 40960];
 
 // What is lent to packet calls as an output.
 pub(crate) type Output = [u8; 8192];
+
+// What is lent to packet calls for sets.
+pub(crate) type List = [u32; 128];
 
 // The outcomes that are not yet written out.
 pub(crate) type Text = [u8; 65536];
@@ -30,7 +34,7 @@ pub(crate) fn marked_bytes() -> [u8; 256] {
 }
 
 // The lesser of two numbers.
-pub(crate) fn least(a: usize, b: usize) -> usize
+fn least(a: usize, b: usize) -> usize
     ensures { λ r. ⌜ r ≤ b ⌝ }
 {
     if a < b {
@@ -49,6 +53,12 @@ pub(crate) fn first_mut(bytes: &mut [u8], size: usize) -> &mut [u8] {
 pub(crate) fn first_places(numbers: &mut [u16], size: usize) -> &mut [u16] {
     let n = least(size, numbers.len());
     &mut numbers[..n]
+}
+
+// The first places of the list for sets, to be written.
+pub(crate) fn first_sets(sets: &mut [u32], size: usize) -> &mut [u32] {
+    let n = least(size, sets.len());
+    &mut sets[..n]
 }
 
 // The byte at a place, and 0 past the end.
@@ -107,6 +117,57 @@ pub(crate) fn changed(
         outcome::digest(&buffer[first..behind]),
     ];
     outcome::numbers(text, end, &row)
+}
+
+// Whether two sets differ, as a number.
+fn differs(a: u32, b: u32) -> u8 {
+    if a != b {
+        return 1;
+    }
+    0
+}
+
+// Each place of the list, 1 where its set is another than before and else 0.
+fn sets_apart(list: &List, before: &List) -> [u8; 128] {
+    let mut apart: [u8; 128] = [0; 128];
+    let mut i: usize = 0;
+    while i < 128 {
+        apart[i] = differs(list[i], before[i]);
+        i += 1;
+    }
+    apart
+}
+
+// What changed in the list, every set from the first to the last change.
+pub(crate) fn changed_sets(text: &mut [u8], at: usize, list: &List, before: &List) -> usize {
+    let end = outcome::word(text, at, b"sets");
+    let apart = sets_apart(list, before);
+    let same: [u8; 128] = [0; 128];
+    let first = first_apart(&apart, &same);
+    if 128 <= first {
+        return outcome::missing(text, end);
+    }
+    let last = last_apart(&apart, &same, first);
+    let behind = last + 1;
+    let row = [first as u64, last as u64];
+    let end = outcome::numbers(text, end, &row);
+    let sets = &list[..];
+    outcome::sets(text, end, &sets[first..behind])
+}
+
+// The set at a place of the list becomes this, where there is such a place.
+pub(crate) fn set_place(list: &mut List, line: Line) {
+    let n = line.numbers;
+    let i = n[0] as usize;
+    if i < 128 {
+        list[i] = thirty_two_bits(n[1]);
+    }
+}
+
+// Whether a packet call can be lent so much of both buffers and of the list.
+pub(crate) fn are_sizes(line: Line) -> bool {
+    let n = line.numbers;
+    (n[0] <= 40960) & (n[1] <= 8192) & (n[2] <= 128)
 }
 
 // Whether bytes written from a place on end in a buffer of this size.

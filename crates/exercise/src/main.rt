@@ -8,6 +8,7 @@ mod state_calls;
 mod table_calls;
 
 use crate::buffers::Bytes;
+use crate::buffers::List;
 use crate::buffers::Output;
 use crate::buffers::Store;
 use crate::buffers::Text;
@@ -70,11 +71,12 @@ fn ended(
     bytes: &mut Bytes,
     store: &mut Store,
     out: &mut Output,
+    list: &mut List,
     text: &mut Text,
 ) -> Turn {
     let line = turn.line.ended();
     let state = turn.state;
-    let after = state_calls::answer(line, state, bytes, store, out, text, turn.at);
+    let after = state_calls::answer(line, state, bytes, store, out, list, text, turn.at);
     let end = text::byte(text, after.at, b'\n');
     let state = after.state;
     if end < 40_000 {
@@ -102,6 +104,7 @@ fn answer_line(
     bytes: &mut Bytes,
     store: &mut Store,
     out: &mut Output,
+    list: &mut List,
     text: &mut Text,
 ) -> Turn {
     let line = turn.line;
@@ -113,7 +116,7 @@ fn answer_line(
     if !taken.is_ended {
         return next;
     }
-    ended(next, bytes, store, out, text)
+    ended(next, bytes, store, out, list, text)
 }
 
 // Whether there is more of the piece to take.
@@ -128,12 +131,13 @@ fn answer_piece(
     bytes: &mut Bytes,
     store: &mut Store,
     out: &mut Output,
+    list: &mut List,
     text: &mut Text,
 ) -> Turn {
     let mut now = turn;
     let mut left = piece.len();
     while 0 < left && is_left(now, piece) {
-        now = answer_line(now, piece, bytes, store, out, text);
+        now = answer_line(now, piece, bytes, store, out, list, text);
         left -= 1;
     }
     now
@@ -145,6 +149,7 @@ fn answer_some(
     bytes: &mut Bytes,
     store: &mut Store,
     out: &mut Output,
+    list: &mut List,
     text: &mut Text,
 ) -> Turn {
     let mut piece = io::large_buffer();
@@ -153,7 +158,7 @@ fn answer_some(
         let n = io::count(got, &piece);
         let mut turn = turn;
         turn.next = 0;
-        return answer_piece(turn, &piece[..n], bytes, store, out, text);
+        return answer_piece(turn, &piece[..n], bytes, store, out, list, text);
     }
     if got < 0 {
         os::fail(b"standard input");
@@ -162,7 +167,7 @@ fn answer_some(
     if (got < 0) | line.is_empty() {
         return stopped(turn, text);
     }
-    let last = ended(turn, bytes, store, out, text);
+    let last = ended(turn, bytes, store, out, list, text);
     stopped(last, text)
 }
 
@@ -175,7 +180,13 @@ fn stopped(turn: Turn, text: &[u8]) -> Turn {
 }
 
 // A proved loop has to end, and nothing says that a script does, so it counts down from a number that no run uses up.
-fn answer_all(bytes: &mut Bytes, store: &mut Store, out: &mut Output, text: &mut Text) {
+fn answer_all(
+    bytes: &mut Bytes,
+    store: &mut Store,
+    out: &mut Output,
+    list: &mut List,
+    text: &mut Text,
+) {
     let mut turns = u64::MAX;
     let mut turn = Turn {
         state: driver::fresh(),
@@ -185,7 +196,7 @@ fn answer_all(bytes: &mut Bytes, store: &mut Store, out: &mut Output, text: &mut
         is_on: true,
     };
     while 0 < turns && turn.is_on {
-        turn = answer_some(turn, bytes, store, out, text);
+        turn = answer_some(turn, bytes, store, out, list, text);
         turns -= 1;
     }
 }
@@ -194,6 +205,7 @@ fn main() {
     let mut bytes: Bytes = [0; 8192];
     let mut store: Store = [0; 40960];
     let mut out: Output = [0; 8192];
+    let mut list: List = [0; 128];
     let mut text = io::large_buffer();
-    answer_all(&mut bytes, &mut store, &mut out, &mut text);
+    answer_all(&mut bytes, &mut store, &mut out, &mut list, &mut text);
 }

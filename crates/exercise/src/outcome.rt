@@ -44,6 +44,17 @@ pub(crate) fn numbers(text: &mut [u8], at: usize, numbers: &[u64]) -> usize {
     end
 }
 
+// Sets, each behind a space.
+pub(crate) fn sets(text: &mut [u8], at: usize, sets: &[u32]) -> usize {
+    let mut end = at;
+    let mut i: usize = 0;
+    while i < sets.len() {
+        end = number(text, end, sets[i] as u64);
+        i += 1;
+    }
+    end
+}
+
 // Yes is 1 and no is 0.
 pub(crate) fn yes(is_so: bool) -> u64 {
     if is_so {

@@ -34,11 +34,12 @@ fn print_areas(text: &mut [u8], at: usize, state: State) -> usize {
 // The places in their order.
 fn print_places(text: &mut [u8], at: usize, state: State) -> usize {
     let filters = state.filters;
+    let choices = state.choices;
     let mut end = at;
     let mut i: usize = 0;
     while i < 32 {
         let filter = filters[i];
-        end = print_place(text, end, i, filter);
+        end = print_place(text, end, i, filter, choices[i]);
         i += 1;
     }
     end
@@ -71,13 +72,36 @@ fn print_area(text: &mut [u8], at: usize, i: usize, area: Area) -> usize {
 }
 
 // A place's record, unless it is all zero.
-fn print_place(text: &mut [u8], at: usize, i: usize, filter: Filter) -> usize {
-    if (filter.number == 0) & (filter.area == 0) {
+fn print_place(text: &mut [u8], at: usize, i: usize, filter: Filter, choice: u16) -> usize {
+    if (filter.number == 0) & (filter.area == 0) & (choice == 0) {
         return at;
     }
     let end = outcome::word(text, at, b"place");
-    let row = [i as u64, filter.number as u64, filter.area as u64];
+    let row = [
+        i as u64,
+        filter.number as u64,
+        filter.area as u64,
+        table_of(choice) as u64,
+    ];
     outcome::numbers(text, end, &row)
+}
+
+// A record's choice as scripts write it: a table_id, 256 for all, or a number that is no choice.
+fn table_of(choice: u16) -> u16 {
+    match choice {
+        0 => 256,
+        1..=256 => choice - 1,
+        _ => choice,
+    }
+}
+
+// The number of a record's choice that a script writes so.
+fn choice_of(table: u16) -> u16 {
+    match table {
+        256 => 0,
+        0..=255 => table + 1,
+        _ => table,
+    }
 }
 
 // The state with an area's record set, where there is such an area.
@@ -108,6 +132,7 @@ pub(crate) fn with_area(state: State, numbers: Values) -> State {
 pub(crate) fn with_place(state: State, numbers: Values) -> State {
     let mut next = state;
     let mut filters = state.filters;
+    let mut choices = state.choices;
     let i = numbers[0] as usize;
     if 32 <= i {
         return state;
@@ -116,7 +141,9 @@ pub(crate) fn with_place(state: State, numbers: Values) -> State {
         number: sixteen_bits(numbers[1]),
         area: eight_bits(numbers[2]),
     };
+    choices[i] = choice_of(sixteen_bits(numbers[3]));
     next.filters = filters;
+    next.choices = choices;
     next
 }
 
@@ -135,5 +162,5 @@ pub(crate) fn is_area(line: Line) -> bool {
 // Whether a place's numbers are in their ranges.
 pub(crate) fn is_place(line: Line) -> bool {
     let n = line.numbers;
-    (n[0] < 32) & (n[1] < 65536) & (n[2] < 256)
+    (n[0] < 32) & (n[1] < 65536) & (n[2] < 256) & (n[3] < 65536)
 }

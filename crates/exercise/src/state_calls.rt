@@ -1,16 +1,21 @@
-// The lines about a driver: its state, its buffers, open, close and the packet call.
+// The lines about a driver: its state, its buffers and its list, open, close and the packet call.
 use crate::buffers;
+use crate::buffers::List;
 use crate::buffers::Output;
 use crate::buffers::Store;
 use crate::buffers::changed;
-use crate::buffers::least;
+use crate::buffers::changed_sets;
+use crate::buffers::first_mut;
+use crate::buffers::first_sets;
 use crate::line::Line;
+use crate::line::eight_bits;
 use crate::line::sixteen_bits;
 use crate::line::thirty_two_bits;
 use crate::lone_calls;
 use crate::outcome;
 use crate::records;
 use crate::records::print_state;
+use driver::Choice;
 use driver::Closing;
 use driver::Handled;
 use driver::Handling;
@@ -32,11 +37,12 @@ pub(crate) fn answer(
     bytes: &mut [u8],
     store: &mut Store,
     out: &mut Output,
+    list: &mut List,
     text: &mut [u8],
     at: usize,
 ) -> After {
-    if line.is(b"packet", 2, true) & line.within(40960, 8192) {
-        return packet(line, state, bytes, store, out, text, at);
+    if line.is(b"packet", 3, true) & buffers::are_sizes(line) {
+        return packet(line, state, bytes, store, out, list, text, at);
     }
     if line.is(b"store", 1, true) & buffers::fits(line, 40960) {
         text::word(store, place(line), text::first(bytes, line.size));
@@ -46,6 +52,11 @@ pub(crate) fn answer(
     if line.is(b"output", 1, true) & buffers::fits(line, 8192) {
         text::word(out, place(line), text::first(bytes, line.size));
         let end = text::word(text, at, b"output");
+        return After { state, at: end };
+    }
+    if line.is(b"list", 2, false) & line.within(127, 0xFFFF_FFFF) {
+        buffers::set_place(list, line);
+        let end = text::word(text, at, b"list");
         return After { state, at: end };
     }
     if line.is(b"digest", 0, false) {
@@ -70,7 +81,7 @@ fn digests(store: &[u8], out: &[u8], text: &mut [u8], at: usize) -> usize {
 
 // The lines that need the state alone, and then those that need none of what is kept.
 fn on_state(line: Line, state: State, bytes: &mut [u8], text: &mut [u8], at: usize) -> After {
-    if line.is(b"open", 1, false) & line.within(65535, 0) {
+    if line.is(b"open", 2, false) & line.within(65535, 256) {
         return open(line, state, text, at);
     }
     if line.is(b"close", 1, false) & line.within(65535, 0) {
@@ -90,7 +101,7 @@ fn on_state(line: Line, state: State, bytes: &mut [u8], text: &mut [u8], at: usi
             at: end,
         };
     }
-    if line.is(b"place", 3, false) & records::is_place(line) {
+    if line.is(b"place", 4, false) & records::is_place(line) {
         let end = text::word(text, at, b"place");
         return After {
             state: records::with_place(state, numbers),
@@ -110,13 +121,21 @@ fn on_state(line: Line, state: State, bytes: &mut [u8], text: &mut [u8], at: usi
 // A filter opened.
 fn open(line: Line, state: State, text: &mut [u8], at: usize) -> After {
     let n = line.numbers;
-    let opened = driver::open(state, Pid(sixteen_bits(n[0])));
+    let opened = driver::open(state, Pid(sixteen_bits(n[0])), choice(n[1]));
     let answer = opened.answer;
     let state = opened.state;
     let mut end = text::word(text, at, b"open");
     end = opening(answer, text, end);
     end = print_state(text, end, state);
     After { state, at: end }
+}
+
+// What an open asks for: a table_id where it is a byte, and all where it is not.
+fn choice(table: u64) -> Choice {
+    if table < 256 {
+        return Choice::One(eight_bits(table));
+    }
+    Choice::All
 }
 
 // What an open answered.
@@ -152,37 +171,46 @@ fn closing(answer: Closing, text: &mut [u8], at: usize) -> usize {
 }
 
 // The packet call itself.
-fn handle(line: Line, state: State, bytes: &[u8], store: &mut [u8], out: &mut [u8]) -> Handled {
+fn handle(
+    line: Line,
+    state: State,
+    bytes: &[u8],
+    store: &mut [u8],
+    out: &mut [u8],
+    list: &mut [u32],
+) -> Handled {
     let n = line.numbers;
-    let store_size = least(n[0] as usize, store.len());
-    let out_size = least(n[1] as usize, out.len());
     driver::packet(
         state,
         text::first(bytes, line.size),
-        &mut store[..store_size],
-        &mut out[..out_size],
+        first_mut(store, n[0] as usize),
+        first_mut(out, n[1] as usize),
+        first_sets(list, n[2] as usize),
     )
 }
 
-// The packet call's line: what it answered, what it changed in the buffers, and the state.
+// The packet call's line: what it answered, what it changed in the buffers and in the list, and the state.
 fn packet(
     line: Line,
     state: State,
     bytes: &[u8],
     store: &mut Store,
     out: &mut Output,
+    list: &mut List,
     text: &mut [u8],
     at: usize,
 ) -> After {
     let old_store = *store;
     let old_out = *out;
-    let handled = handle(line, state, bytes, store, out);
+    let old_list = *list;
+    let handled = handle(line, state, bytes, store, out, list);
     let answer = handled.answer;
     let state = handled.state;
     let mut end = text::word(text, at, b"packet");
     end = handling(answer, text, end);
     end = changed(text, end, b"store", store, &old_store);
     end = changed(text, end, b"output", out, &old_out);
+    end = changed_sets(text, end, list, &old_list);
     end = print_state(text, end, state);
     After { state, at: end }
 }
@@ -202,7 +230,6 @@ fn wanted(report: Report, text: &mut [u8], at: usize) -> usize {
     let row = [
         report.sections as u64,
         report.bytes as u64,
-        report.places as u64,
         outcome::yes(report.jump),
         outcome::yes(report.repeat),
         report.given_up as u64,

@@ -100,6 +100,10 @@ module _ {ℓ} {A : Type ℓ} where
       ∙ ap (λ (l : List A). take (min n (length l)) l) (drop-least s at)
       ∙ take-least (drop at s) n
 
+  -- a part passed and then another is both passed
+  pub drop-both : (l : List A) (place size : ℕ) → drop (min (place + size) (length l)) l ≡ drop size (drop place l)
+  drop-both l place size = drop-least l (place + size) ∙ sym (drop-drop size place l)
+
   -- elements taken of the joined ones, from a part of the second list that is long enough
   pub take-joined : (a b : List A) (n m : ℕ) → n ≤ length a + m → take n (a ++ take m b) ≡ take n (a ++ b)
   take-joined a b n m h = go (ltb n (length a)) refl

@@ -5,27 +5,22 @@ use mathlib.Core.List.{List}
 use Prim.Native.Nat.{ℕ, zero, suc, _+_, _-_, _<_, min}
 use native.Mathlib.Nat.{not-suc-le-zero}
 use native.Mathlib.Numerals.{unary-clauses}
-use lib.ListN.{length, getD, drop}
-use lib.Seq.{drop-drop}
-use Rattle.ground.proofs.Part.{drop-least}
-use Rattle.section.specs.Section.{sectionSize}
+use lib.ListN.{length, drop}
+use Rattle.ground.proofs.Part.{drop-both}
+use Rattle.section.specs.Section.{tableOf, sectionSize}
 use Rattle.text.specs.Text.{Text, withBytes}
 use Rattle.text.proofs.Laws.{with-append}
 use Rattle.lines.specs.Lines.{lineOf, sectionWord, sectionLines}
 use Rattle.lines.specs.declared.Cell.the-variants.{Number}
 
--- dropping a part and then another is dropping both
-drop-both : (l : List ℕ) (place size : ℕ) → drop (min (place + size) (length l)) l ≡ drop size (drop place l)
-drop-both l place size = drop-least l (place + size) ∙ sym (drop-drop size place l)
-
 pub progress : (t t′ : Text) (index pid left place : ℕ) (out : List ℕ) (b size place′ : ℕ) → 0 < left
-    → b ≡ getD (drop place out) 0 0 → size ≡ sectionSize (drop place out) → place′ ≡ min (place + size) (length out)
+    → b ≡ tableOf (drop place out) → size ≡ sectionSize (drop place out) → place′ ≡ min (place + size) (length out)
     → t′ ≡ withBytes t (lineOf index (Number pid) sectionWord (Number b) (Number size))
     → withBytes t′ (sectionLines index pid (left - 1) (drop place′ out)) ≡ withBytes t (sectionLines index pid left (drop place out))
 progress t t′ index pid zero place out b size place′ h eb es ep et = absurd (not-suc-le-zero h)
 progress t t′ index pid (suc left) place out b size place′ h eb es ep et =
     let o = drop place out in
-    let line = lineOf index (Number pid) sectionWord (Number (getD o 0 0)) (Number (sectionSize o)) in
+    let line = lineOf index (Number pid) sectionWord (Number (tableOf o)) (Number (sectionSize o)) in
     let rest = sectionLines index pid left (drop (sectionSize o) o) in
     let same : t′ ≡ withBytes t line = et ∙ ap₂ (λ (x y : ℕ). withBytes t (lineOf index (Number pid) sectionWord (Number x) (Number y))) eb es in
     let left-over : drop place′ out ≡ drop (sectionSize o) o = ap (λ (k : ℕ). drop k out) ep ∙ drop-both out place size ∙ ap (λ (k : ℕ). drop k o) es in

@@ -3,9 +3,9 @@ use mathlib.Core.Bool.{Bool, cond}
 use mathlib.Core.List.{List, [], _∷_, _++_}
 use Prim.Native.Nat.{ℕ, zero, suc}
 use lib.Dec.{ltb}
-use lib.ListN.{getD, drop}
+use lib.ListN.{drop}
 use Rattle.ground.specs.Answer.{Answer, refused, given}
-use Rattle.section.specs.Section.{sectionSize}
+use Rattle.section.specs.Section.{tableOf, sectionSize}
 use Rattle.packet_call.specs.Packet.{Said}
 use Rattle.text.specs.Text.{decimalOf}
 use Rattle.lines.specs.declared.Cell.{Cell}
@@ -55,7 +55,7 @@ markLines index pid s =
 abbrev pub sectionLines : ℕ → ℕ → ℕ → List ℕ → List ℕ
 sectionLines index pid zero out = []
 sectionLines index pid (suc left) out =
-    lineOf index (Number pid) sectionWord (Number (getD out 0 0)) (Number (sectionSize out)) ++ sectionLines index pid left (drop (sectionSize out) out)
+    lineOf index (Number pid) sectionWord (Number (tableOf out)) (Number (sectionSize out)) ++ sectionLines index pid left (drop (sectionSize out) out)
 
 -- the lines of a packet on this PID that was answered so: "A refused packet's PID is a dash; an unwanted packet prints no line"
 abbrev pub linesOf : ℕ → ℕ → Answer Said → List ℕ → List ℕ

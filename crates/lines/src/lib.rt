@@ -1,8 +1,6 @@
 // The lines of a packet: jump, repeat, cut and a line for each section, or the refusal.
 ghost use mathlib.Core.Path.{_≡_};
 ghost use mathlib.Core.List.{[], _∷_};
-ghost use lib.ListN.{getD, drop};
-ghost use Rattle.section.specs.Section.{sectionSize};
 ghost use Rattle.packet_call.specs.Packet.{toldReport, pidOf};
 ghost use Rattle.text.specs.Text.{upTo, withBytes};
 ghost use Rattle.lines.specs.Lines.{cellOf, lineOf, sectionWord, markLine, markLines, sectionLines};
@@ -136,8 +134,9 @@ fn sections(text: &mut [u8], at: usize, index: u64, pid: u16, count: usize, out:
     let mut place: usize = 0;
     let mut left = count;
     while 0 < left {
-        let size = section_size(out, place);
-        end = section(text, end, index, pid, byte(out, place, 0), size);
+        let size = section::size_at(out, place);
+        let table = section::table_at(out, place);
+        end = section(text, end, index, pid, table, size);
         place = further(place, size, out.len());
         left -= 1;
     }
@@ -153,21 +152,4 @@ fn section(text: &mut [u8], at: usize, index: u64, pid: u16, table: u8, size: us
     let number = Cell::Number(table as u64);
     let bytes = Cell::Number(size as u64);
     line(text, at, index, pid, b"section", number, bytes)
-}
-
-// How many bytes the section at a place has.
-fn section_size(out: &[u8], place: usize) -> usize
-    ensures { λ r. ⌜ r ≡ sectionSize (drop place (now (out .entry))) ⌝ }
-{
-    3 + section::length_of(byte(out, place, 1), byte(out, place, 2))
-}
-
-// The byte so many behind a place, and 0 past the end.
-fn byte(bytes: &[u8], place: usize, behind: usize) -> u8
-    ensures { λ r. ⌜ r ≡ getD (drop place (now (bytes .entry))) behind 0 ⌝ }
-{
-    if place < bytes.len() {
-        return byte_at(&bytes[place..], behind);
-    }
-    0
 }

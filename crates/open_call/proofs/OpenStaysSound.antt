@@ -6,11 +6,12 @@ use mathlib.Core.List.{List}
 use Prim.Native.Nat.{ℕ, _+_, _≤_, _<_}
 use native.Mathlib.Decide.{ℕ-discrete}
 use native.Mathlib.Omega.{arith}
-use borrow.Author.Tests.{le-leb, ltb-true, ltb-false, not-false, eqb-true, eq-eqb, ne-eqb}
+use borrow.Author.Tests.{le-leb, ltb-true, lt-ltb, ltb-false, not-false, eqb-true, eq-eqb, ne-eqb}
 use lib.Dec.{ltb, eqb}
 use lib.ListN.{length, getD, set, length-set}
 use lib.Seq.{getD-set-same, getD-set-other}
 use Rattle.ground.specs.Walk.{apart, count}
+use Rattle.ground.proofs.Test.{both-true, true-both}
 use Rattle.ground.proofs.Walk.{all-at, all-of, all-set, apart-set, find-passes, find-first, total-set}
 use Rattle.state.specs.State.{isUsed, isOpen, isFree, standsOn, freeArea, freeFilter, hasPid, areaOf, freeAreaOf}
 use Rattle.state.specs.Choice.{soundChoice, choiceOf}
@@ -18,9 +19,9 @@ use Rattle.state.specs.declared.Area.{Area}
 use Rattle.state.specs.declared.Filter.{Filter}
 use Rattle.state.specs.declared.State.{State}
 use Rattle.sound.specs.Sound.{soundArea, soundFilter, samePid, sameNumber}
+use Rattle.sound.proofs.Choices.{choices-set}
 use Rattle.sound.proofs.Pass.{counted-all}
-use Rattle.sound.proofs.Places.{InOrder, open-says, filter-still}
-use Rattle.sound.proofs.Clauses.{Clauses, users-are, marks-sound, open-in-order}
+use Rattle.sound.proofs.Clauses.{Clauses, users-are, marks-sound}
 use Rattle.sound.proofs.Pids.{only-one, lonely}
 use Rattle.open_call.specs.Open.{areaFor, withUser, withFilter}
 
@@ -61,7 +62,7 @@ module _ (s : State) (pid code a p : ℕ) (k : Clauses s) (low : pid ≤ 0x1FFE)
   area = withUser pid (getD (s .areas) a freeArea)
 
   abbrev filter : Filter
-  filter = record { number = s .next; area = a; choice = code }
+  filter = record { number = s .next; area = a }
 
   filter-open : isOpen filter ≡ true
   filter-open = ap not (ne-eqb (s .next) 0 (let one = k .from in omega arith))
@@ -77,14 +78,23 @@ module _ (s : State) (pid code a p : ℕ) (k : Clauses s) (low : pid ≤ 0x1FFE)
       go (yes e) = ap (λ (j : ℕ). isUsed (getD (set (s .areas) a area) j freeArea)) e ∙ ap isUsed (getD-set-same (s .areas) a area freeArea ha) ∙ area-used
       go (no n) = ap isUsed (getD-set-other (s .areas) a i area freeArea n) ∙ u
 
-  -- a filter in order is in order still
-  in-order-still : (f : Filter) → InOrder (s .next) (s .areas) f → InOrder (s .next + 1) (set (s .areas) a area) f
-  in-order-still f o = let below = o .below in record { below = omega arith; used = used-still (f .area) (o .used); chosen = o .chosen }
+  -- a sound filter is sound still
+  filter-still : (f : Filter) → soundFilter (s .next) (s .areas) f ≡ true → soundFilter (s .next + 1) (set (s .areas) a area) f ≡ true
+  filter-still f e = go (isOpen f) e
+    where
+      go : (o : Bool) → cond o (ltb (f .number) (s .next) && isUsed (getD (s .areas) (f .area) freeArea)) (eqb (f .area) 0) ≡ true
+          → cond o (ltb (f .number) (s .next + 1) && isUsed (getD (set (s .areas) a area) (f .area) freeArea)) (eqb (f .area) 0) ≡ true
+      go false e = e
+      go true e =
+          let parts = both-true (ltb (f .number) (s .next)) (isUsed (getD (s .areas) (f .area) freeArea)) e in
+          let below = ltb-true (f .number) (s .next) (parts .0) in
+          true-both (ltb (f .number) (s .next + 1)) _ (lt-ltb (f .number) (s .next + 1) (omega arith)) (used-still (f .area) (parts .1))
 
   filter-sound : soundFilter (s .next + 1) (set (s .areas) a area) filter ≡ true
   filter-sound =
-      open-says (s .next + 1) (set (s .areas) a area) filter filter-open
-      (record { below = omega arith; used = ap isUsed (getD-set-same (s .areas) a area freeArea ha) ∙ area-used; chosen = chosen })
+      ap (λ (o : Bool). cond o (ltb (s .next) (s .next + 1) && isUsed (getD (set (s .areas) a area) a freeArea)) (eqb a 0)) filter-open
+      ∙ true-both (ltb (s .next) (s .next + 1)) _ (lt-ltb (s .next) (s .next + 1) (omega arith))
+      (ap isUsed (getD-set-same (s .areas) a area freeArea ha) ∙ area-used)
 
   -- no filter has the number yet
   number-new : (j : ℕ) → j < length (s .filters) → getD (s .filters) j freeFilter .number ≡ s .next → ⊥
@@ -96,7 +106,10 @@ module _ (s : State) (pid code a p : ℕ) (k : Clauses s) (low : pid ≤ 0x1FFE)
           let one = k .from in
           omega arith
       go true o =
-          let below = open-in-order s k j h o .below in
+          let f = getD (s .filters) j freeFilter in
+          let q = sym (ap (λ (b : Bool). cond b (ltb (f .number) (s .next) && isUsed (getD (s .areas) (f .area) freeArea)) (eqb (f .area) 0)) o)
+          ∙ all-at (soundFilter (s .next) (s .areas)) (s .filters) freeFilter (k .filters) j h in
+          let below = ltb-true (f .number) (s .next) (both-true (ltb (f .number) (s .next)) _ q .0) in
           omega arith
 
   differs : (j : ℕ) → j < length (s .filters) → (j ≡ p → ⊥)
@@ -153,8 +166,9 @@ module _ (s : State) (pid code a p : ℕ) (k : Clauses s) (low : pid ≤ 0x1FFE)
         filters =
             all-set (soundFilter (s .next + 1) (set (s .areas) a area)) (s .filters) p filter freeFilter
             (all-of (soundFilter (s .next + 1) (set (s .areas) a area)) (s .filters) freeFilter
-            (λ j h. filter-still (s .next) (s .next + 1) (s .areas) (set (s .areas) a area) (getD (s .filters) j freeFilter) (λ _. in-order-still (getD (s .filters) j freeFilter)) (all-at (soundFilter (s .next) (s .areas)) (s .filters) freeFilter (k .filters) j h)))
+            (λ j h. filter-still (getD (s .filters) j freeFilter) (all-at (soundFilter (s .next) (s .areas)) (s .filters) freeFilter (k .filters) j h)))
             filter-sound;
         numbers = apart-set sameNumber (s .filters) p filter freeFilter (k .numbers) differs;
+        choices = choices-set (s .filters) (s .choices) p filter code hp (k .choices) (ap (λ (b : Bool). cond b (soundChoice (choiceOf code)) (eqb code 0)) filter-open ∙ chosen);
         users = counted-all (set (s .filters) p filter) (set (s .areas) a area) users-right;
       }

@@ -63,7 +63,8 @@ abbrev pub withFilter : State → ℕ → ℕ → ℕ → ℕ → State
 withFilter s pid code area place =
     record {
       areas = set (s .areas) area (withUser pid (getD (s .areas) area freeArea));
-      filters = set (s .filters) place (record { number = s .next; area = area; choice = code });
+      filters = set (s .filters) place (record { number = s .next; area = area });
+      choices = set (s .choices) place code;
       next = s .next + 1;
     }
 

@@ -77,7 +77,7 @@ fn unopened(state: State, number: u8) -> Opened
     }
 }
 
-// A choice as its number in a filter's record.
+// A choice as its number in the state.
 fn code_of(choice: Choice) -> u16
     ensures { λ r. ⌜ r ≡ codeOf choice ⌝ }
 {
@@ -118,17 +118,19 @@ fn with_filter(state: State, pid: Pid, code: u16, area: usize, place: usize) -> 
 {
     let mut areas = state.areas;
     let mut filters = state.filters;
+    let mut choices = state.choices;
     let next = state.next;
     let own = areas[area];
     areas[area] = with_user(own, pid);
     filters[place] = Filter {
         number: next as u16,
         area: area as u8,
-        choice: code,
     };
+    choices[place] = code;
     State {
         areas,
         filters,
+        choices,
         next: next + 1,
     }
 }

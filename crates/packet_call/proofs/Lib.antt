@@ -1,3 +1,4 @@
+pub mod Sets
 pub mod PutBack
 pub mod PacketRead
 pub mod Order

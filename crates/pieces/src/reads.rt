@@ -6,6 +6,7 @@ ghost use Rattle.pieces.specs.Piece.{workOf, toldPiece, moreOf, endedOf}
 ghost use Rattle.pieces.specs.Promises.{Begins, ListsRead};
 use crate::packets;
 use crate::packets::Progress;
+use driver::Choice;
 use octets::further;
 use packet::PACKET_BYTES;
 use pid::Pid;
@@ -24,11 +25,11 @@ pub enum Brought {
     Failure,
 }
 
-// A fresh state with a filter on PID 0.
+// A fresh state with a filter on PID 0 that lets all tables through.
 pub fn begin() -> Step
     ensures { λ r. ⌜ Begins r ⌝ }
 {
-    let opened = driver::open(driver::fresh(), Pid::PROGRAM_ASSOCIATION);
+    let opened = driver::open(driver::fresh(), Pid::PROGRAM_ASSOCIATION, Choice::All);
     let state = opened.state;
     Step {
         progress: Progress {

@@ -1,8 +1,12 @@
--- Document 01, "Numbers of the house" (Section) and "Tables"; H.222.0 2.4.4: how long a section says that it is.
+-- Document 01, "Numbers of the house" (Section) and "Tables"; H.222.0 2.4.4: the table_id that a section begins with, and how long it says that it is.
 use mathlib.Core.List.{List}
 use Prim.Native.Nat.{ℕ, _+_, _*_}
 use lib.ListN.{getD}
 use Rattle.ground.specs.Number.{bits}
+
+-- a section's table_id is its first byte
+abbrev pub tableOf : List ℕ → ℕ
+tableOf s = getD s 0 0
 
 -- section_length: the last 12 bits of a section's second and third byte
 abbrev pub lengthField : ℕ → ℕ → ℕ

@@ -16,10 +16,10 @@ use Rattle.gather.specs.Memory.{noMarks, heldOf, soundMarks}
 use Rattle.gather.proofs.RuleOnMemory.{none-held}
 use Rattle.gather.specs.declared.Marks.{Marks}
 use Rattle.state.specs.State.{standsOn, freeArea, freeFilter, isOpen, isUsed}
+use Rattle.state.specs.Choice.{placesOf}
 use Rattle.state.specs.declared.Area.{Area}
 use Rattle.state.specs.declared.State.{State}
-use Rattle.sound.specs.Sound.{sound, soundArea, isZeroArea, soundFilter, soundNext, samePid, sameNumber, counted}
-use Rattle.sound.proofs.Places.{InOrder, open-tells}
+use Rattle.sound.specs.Sound.{sound, soundArea, isZeroArea, soundFilter, soundNext, samePid, sameNumber, soundPlace, counted}
 use Rattle.sound.proofs.Pass.{counted-at}
 
 -- ---- one area
@@ -60,12 +60,15 @@ pub record Clauses (s : State) : Type 0 where
   pub pids : apart samePid (s .areas) ≡ true
   pub filters : all (soundFilter (s .next) (s .areas)) (s .filters) ≡ true
   pub numbers : apart sameNumber (s .filters) ≡ true
+  pub choices : all soundPlace (placesOf s) ≡ true
   pub users : counted (s .filters) 0 (s .areas) ≡ true
 
 pub sound-tells : (s : State) → sound s ≡ true → Clauses s
 unfolding sound
 sound-tells s e =
-    let p5 = both-true (soundNext (s .next) && all soundArea (s .areas) && apart samePid (s .areas) && all (soundFilter (s .next) (s .areas)) (s .filters) && apart sameNumber (s .filters)) (counted (s .filters) 0 (s .areas)) e in
+    let p6 =
+    both-true (soundNext (s .next) && all soundArea (s .areas) && apart samePid (s .areas) && all (soundFilter (s .next) (s .areas)) (s .filters) && apart sameNumber (s .filters) && all soundPlace (placesOf s)) (counted (s .filters) 0 (s .areas)) e in
+    let p5 = both-true (soundNext (s .next) && all soundArea (s .areas) && apart samePid (s .areas) && all (soundFilter (s .next) (s .areas)) (s .filters) && apart sameNumber (s .filters)) (all soundPlace (placesOf s)) (p6 .0) in
     let p4 = both-true (soundNext (s .next) && all soundArea (s .areas) && apart samePid (s .areas) && all (soundFilter (s .next) (s .areas)) (s .filters)) (apart sameNumber (s .filters)) (p5 .0) in
     let p3 = both-true (soundNext (s .next) && all soundArea (s .areas) && apart samePid (s .areas)) (all (soundFilter (s .next) (s .areas)) (s .filters)) (p4 .0) in
     let p2 = both-true (soundNext (s .next) && all soundArea (s .areas)) (apart samePid (s .areas)) (p3 .0) in
@@ -78,12 +81,13 @@ sound-tells s e =
       pids = p2 .1;
       filters = p3 .1;
       numbers = p4 .1;
-      users = p5 .1;
+      choices = p5 .1;
+      users = p6 .1;
     }
 
 pub sound-says : (s : State) → Clauses s → sound s ≡ true
 unfolding sound
-sound-says s k = rw (le-leb 1 (s .next) (k .from), le-leb (s .next) 65536 (k .to), k .areas, k .pids, k .filters, k .numbers, k .users)
+sound-says s k = rw (le-leb 1 (s .next) (k .from), le-leb (s .next) 65536 (k .to), k .areas, k .pids, k .filters, k .numbers, k .choices, k .users)
 
 -- a user count is that of the open filters on the area
 pub users-are : (s : State) → Clauses s → (i : ℕ) → i < length (s .areas) → getD (s .areas) i freeArea .users ≡ count (standsOn i) (s .filters)
@@ -92,14 +96,15 @@ users-are s k i h = counted-at (s .filters) 0 (s .areas) (k .users) i h ∙ ap (
 pub users-few : (s : State) → Clauses s → (i : ℕ) → i < length (s .areas) → getD (s .areas) i freeArea .users ≤ length (s .filters)
 users-few s k i h = let e = users-are s k i h in let most = count-le (standsOn i) (s .filters) in omega arith
 
--- an open filter is in order
-pub open-in-order : (s : State) → Clauses s → (j : ℕ) → j < length (s .filters) → isOpen (getD (s .filters) j freeFilter) ≡ true → InOrder (s .next) (s .areas) (getD (s .filters) j freeFilter)
-open-in-order s k j h o = open-tells (s .next) (s .areas) (getD (s .filters) j freeFilter) (all-at (soundFilter (s .next) (s .areas)) (s .filters) freeFilter (k .filters) j h) o
-
--- so it stands on a used area
+-- an open filter stands on a used area
 pub open-stands : (s : State) → Clauses s → (j : ℕ) → j < length (s .filters) → isOpen (getD (s .filters) j freeFilter) ≡ true
     → isUsed (getD (s .areas) (getD (s .filters) j freeFilter .area) freeArea) ≡ true
-open-stands s k j h o = open-in-order s k j h o .used
+open-stands s k j h o =
+    let f = getD (s .filters) j freeFilter in
+    both-true (ltb (f .number) (s .next)) (isUsed (getD (s .areas) (f .area) freeArea))
+    (sym (ap (λ (b : Bool). cond b (ltb (f .number) (s .next) && isUsed (getD (s .areas) (f .area) freeArea)) (eqb (f .area) 0)) o)
+    ∙ all-at (soundFilter (s .next) (s .areas)) (s .filters) freeFilter (k .filters) j h)
+    .1
 
 -- and a used area is one of the list
 pub used-inside : (areas : List Area) (i : ℕ) → isUsed (getD areas i freeArea) ≡ true → i < length areas

@@ -1,4 +1,4 @@
-pub mod Places
+pub mod Choices
 pub mod Pass
 pub mod Clauses
 pub mod Areas

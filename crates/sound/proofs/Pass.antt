@@ -2,27 +2,27 @@
 -- Assumes nothing.
 use mathlib.Core.Path.{_≡_, refl, sym, _∙_, ap, ap₂}
 use mathlib.Core.Bool.{Bool, true, false, cond, not, _&&_, _||_, false≢true}
-use mathlib.Core.List.{List, [], _∷_}
+use mathlib.Core.List.{List, [], _∷_, map}
 use Prim.Native.Nat.{ℕ, zero, suc, _+_, _-_, _%_, _≤_, _<_, suc-le-suc, zero-le}
 use native.Mathlib.Nat.{mod-lt, zero-add, add-zero, add-suc, suc-add, not-suc-le-zero, le-of-suc-le-suc}
 use native.Mathlib.Numerals.{add-one}
 use native.Mathlib.Omega.{arith}
 use borrow.Author.Tests.{eq-eqb, ne-eqb, eqb-true, eqb-false, ltb-true, lt-ltb, not-true}
 use native.Mathlib.Decide.{ℕ-discrete, decLt}
-use lib.Dec.{eqb, ltb, leb, lit<}
-use lib.ListN.{length, drop, getD, set, replicate, getD-replicate, length-set, List·getD-eq-default}
-use lib.Seq.{drop-cons, getD-set-same, getD-set-other}
+use lib.Dec.{eqb, ltb, lit<}
+use lib.ListN.{length, drop, getD, set, replicate, getD-replicate, length-set, length-map, length-drop, List·getD-eq-default, List·getD-map}
+use lib.Seq.{drop-cons, getD-drop, getD-set-same, getD-set-other}
 use Rattle.ground.specs.Walk.{all, apart, count}
 use Rattle.ground.proofs.Test.{both-true, true-both, and-false}
 use Rattle.ground.proofs.Walk.{all-at, all-of, all-goes, all-weaker, apart-front, total-turn, total-at, total-none, count-le}
 use Rattle.ground.proofs.Kept.{Kept, kept-none, kept-one, kept-new, kept-met}
 use Rattle.state.specs.State.{isOpen, isUsed, standsOn, freeArea, freeFilter}
+use Rattle.state.specs.Choice.{placed}
 use Rattle.state.specs.declared.Area.{Area}
 use Rattle.state.specs.declared.Filter.{Filter}
-use Rattle.state.proofs.Chosen.{sound-code}
-use Rattle.sound.specs.Sound.{soundFilter, isZeroFilter, counted, sameNumber}
-use Rattle.sound.specs.Steps.{isNew, numberKept, isZeroPlace, Counts, agree, fitsPlace, countedIn, metIn, isMet, classOf}
-use Rattle.sound.proofs.Places.{filter-case, open-tells, open-says}
+use Rattle.sound.specs.Sound.{soundFilter, counted, sameNumber, soundPlace}
+use Rattle.sound.specs.Steps.{known, isNew, numberKept, isZeroPlace, Counts, agree, fitsPlace, countedIn, metIn, isMet, classOf}
+use Rattle.sound.proofs.Choices.{same-choices}
 
 -- ---- counts and users
 pub agree-turn : (counts : List ℕ) (areas : List Area) (i : ℕ) → i < length counts → i < length areas
@@ -147,15 +147,14 @@ met-turn filters met i long new m = record { marked = marks; differ = differs }
 -- ---- the three clauses
 -- an area that does not exist has no users, so whoever stands on a used one stands on one of them
 sound-fits : (next : ℕ) (areas : List Area) (f : Filter) → length areas ≡ 8 → soundFilter next areas f ≡ true → fitsPlace next f ≡ true
-sound-fits next areas f long e = go (isOpen f) refl
+sound-fits next areas f long e = go (isOpen f) e
   where
-    go : (o : Bool) → isOpen f ≡ o → cond o (ltb (f .number) next && ltb (f .area) 8 && leb (f .choice) 255) (isZeroFilter f) ≡ true
-    go false o = sym (filter-case next areas f o) ∙ e
-    go true o =
-        let k = open-tells next areas f e o in
-        true-both (ltb (f .number) next && ltb (f .area) 8) (leb (f .choice) 255)
-        (true-both (ltb (f .number) next) (ltb (f .area) 8) (lt-ltb (f .number) next (k .below)) (inside (decLt (f .area) 8) (k .used)))
-        (sym (sound-code (f .choice)) ∙ k .chosen)
+    go : (o : Bool) → cond o (ltb (f .number) next && isUsed (getD areas (f .area) freeArea)) (eqb (f .area) 0) ≡ true
+        → cond o (ltb (f .number) next && ltb (f .area) 8) (eqb (f .area) 0) ≡ true
+    go false e = e
+    go true e =
+        let parts = both-true (ltb (f .number) next) (isUsed (getD areas (f .area) freeArea)) e in
+        true-both (ltb (f .number) next) (ltb (f .area) 8) (parts .0) (inside (decLt (f .area) 8) (parts .1))
       where
         inside : Dec (f .area < 8) → isUsed (getD areas (f .area) freeArea) ≡ true → ltb (f .area) 8 ≡ true
         inside (yes h) u = lt-ltb (f .area) 8 h
@@ -185,23 +184,17 @@ fits-sound : (next : ℕ) (areas : List Area) (filters : List Filter) (j : ℕ) 
     → fitsPlace next (getD filters j freeFilter) ≡ true → soundFilter next areas (getD filters j freeFilter) ≡ true
 fits-sound next areas filters j long h e q = go (isOpen (getD filters j freeFilter)) refl q
   where
-    f : Filter
-    f = getD filters j freeFilter
-
-    go : (o : Bool) → isOpen f ≡ o → cond o (ltb (f .number) next && ltb (f .area) 8 && leb (f .choice) 255) (isZeroFilter f) ≡ true → soundFilter next areas f ≡ true
-    go false o q = filter-case next areas f o ∙ q
+    go : (o : Bool) → isOpen (getD filters j freeFilter) ≡ o
+        → cond o (ltb (getD filters j freeFilter .number) next && ltb (getD filters j freeFilter .area) 8) (eqb (getD filters j freeFilter .area) 0) ≡ true
+        → cond o (ltb (getD filters j freeFilter .number) next && isUsed (getD areas (getD filters j freeFilter .area) freeArea)) (eqb (getD filters j freeFilter .area) 0) ≡ true
+    go false o q = q
     go true o q =
-        let whole = both-true (ltb (f .number) next && ltb (f .area) 8) (leb (f .choice) 255) q in
-        let parts = both-true (ltb (f .number) next) (ltb (f .area) 8) (whole .0) in
+        let f = getD filters j freeFilter in
+        let parts = both-true (ltb (f .number) next) (ltb (f .area) 8) q in
         let inside : f .area < length areas = rw long (ltb-true (f .area) 8 (parts .1)) in
         let users = counted-at filters 0 areas e (f .area) inside ∙ ap (λ (k : ℕ). count (standsOn k) filters) (zero-add (f .area)) in
         let some = stands-counted filters j (f .area) h (true-both (isOpen f) _ o (eq-eqb (f .area) (f .area) refl)) in
-        open-says next areas f o
-        (record {
-          below = ltb-true (f .number) next (parts .0);
-          used = ap not (ne-eqb (getD areas (f .area) freeArea .users) 0 (omega arith));
-          chosen = sound-code (f .choice) ∙ whole .1;
-        })
+        true-both (ltb (f .number) next) _ (parts .0) (ap not (ne-eqb (getD areas (f .area) freeArea .users) 0 (omega arith)))
 
 same-truth : (a b : Bool) → (a ≡ true → b ≡ true) → (b ≡ true → a ≡ true) → a ≡ b
 same-truth true b f g = sym (f refl)
@@ -230,47 +223,48 @@ places-unsound next areas filters long e = go (all (soundFilter next areas) filt
 pub open-inside : (next : ℕ) (f : Filter) → fitsPlace next f ≡ true → isOpen f ≡ true → f .area < 8
 open-inside next f e o =
     ltb-true (f .area) 8
-    (both-true (ltb (f .number) next) (ltb (f .area) 8)
-    (both-true (ltb (f .number) next && ltb (f .area) 8) (leb (f .choice) 255)
-    (sym (ap (λ (b : Bool). cond b (ltb (f .number) next && ltb (f .area) 8 && leb (f .choice) 255) (isZeroFilter f)) o) ∙ e)
-    .0)
-    .1)
+    (both-true (ltb (f .number) next) (ltb (f .area) 8) (sym (ap (λ (b : Bool). cond b (ltb (f .number) next && ltb (f .area) 8) (eqb (f .area) 0)) o) ∙ e) .1)
 
--- one test before three others
-pub regrouped : (x a b c : Bool) → (((x && a) && b) && c) ≡ (x && ((a && b) && c))
-regrouped true a b c = refl
-regrouped false a b c = refl
+-- one test before four others
+pub regrouped : (x a b c d : Bool) → ((((x && a) && b) && c) && d) ≡ (x && (((a && b) && c) && d))
+regrouped true a b c d = refl
+regrouped false a b c d = refl
 
--- the three clauses together
-abbrev pub clauses : ℕ → List Area → List Filter → Bool
-clauses next areas filters = all (soundFilter next areas) filters && apart sameNumber filters && counted filters 0 areas
+module _ (next : ℕ) (areas : List Area) (filters : List Filter) (choices : List ℕ) (long : length areas ≡ 8) where
+  abbrev chosen : Bool
+  chosen = all soundPlace (placed filters choices)
 
-module _ (next : ℕ) (areas : List Area) (filters : List Filter) (long : length areas ≡ 8) where
-  clauses-ranged : all (fitsPlace next) filters ≡ false → clauses next areas filters ≡ false
-  clauses-ranged e = rw (places-unsound next areas filters long e)
+  -- the four clauses together, and what the pass over the places finds out
+  abbrev clauses : Bool
+  clauses = all (soundFilter next areas) filters && apart sameNumber filters && chosen && counted filters 0 areas
 
-  clauses-counted : counted filters 0 areas ≡ false → clauses next areas filters ≡ false
-  clauses-counted e = rw e (and-false (all (soundFilter next areas) filters && apart sameNumber filters))
+  abbrev found : Bool
+  found = all (fitsPlace next) filters && apart sameNumber filters && chosen
 
-  clauses-apart : apart sameNumber filters ≡ false → clauses next areas filters ≡ false
-  clauses-apart e = rw (e, and-false (all (soundFilter next areas) filters))
+  clauses-counted : counted filters 0 areas ≡ false → clauses ≡ false
+  clauses-counted e = rw e (and-false (all (soundFilter next areas) filters && apart sameNumber filters && chosen))
 
-  -- where the pass over the places fails, they do
-  pub clauses-out : (all (fitsPlace next) filters && apart sameNumber filters) ≡ false → clauses next areas filters ≡ false
+  -- where the pass fails, they do
+  pub clauses-out : found ≡ false → clauses ≡ false
   clauses-out e = go (all (fitsPlace next) filters) refl e
     where
-      go : (b : Bool) → all (fitsPlace next) filters ≡ b → (b && apart sameNumber filters) ≡ false → clauses next areas filters ≡ false
-      go false q e = clauses-ranged q
-      go true q e = clauses-apart e
+      rest : (f n : Bool) → (n && chosen) ≡ false → (((f && n) && chosen) && counted filters 0 areas) ≡ false
+      rest true n q = ap (λ (b : Bool). b && counted filters 0 areas) q
+      rest false n q = refl
+
+      go : (b : Bool) → all (fitsPlace next) filters ≡ b → (b && apart sameNumber filters && chosen) ≡ false → clauses ≡ false
+      go false q e = rw (places-unsound next areas filters long q)
+      go true q e = rest (all (soundFilter next areas) filters) (apart sameNumber filters) e
 
   -- where it does not, what is left of them is that the users are counted
-  pub clauses-left : (all (fitsPlace next) filters && apart sameNumber filters) ≡ true → clauses next areas filters ≡ counted filters 0 areas
+  pub clauses-left : found ≡ true → clauses ≡ counted filters 0 areas
   clauses-left e = go (counted filters 0 areas) refl
     where
-      go : (b : Bool) → counted filters 0 areas ≡ b → clauses next areas filters ≡ b
+      go : (b : Bool) → counted filters 0 areas ≡ b → clauses ≡ b
       go true q =
-          let both = both-true (all (fitsPlace next) filters) (apart sameNumber filters) e in
-          rw (places-sound next areas filters long q ∙ both .0, both .1, q)
+          let whole = both-true (all (fitsPlace next) filters && apart sameNumber filters) chosen e in
+          let both = both-true (all (fitsPlace next) filters) (apart sameNumber filters) (whole .0) in
+          rw (places-sound next areas filters long q ∙ both .0, both .1, whole .1, q)
       go false q = clauses-counted q
 
 -- ---- two open filters have one number exactly where what is kept of them is equal
@@ -282,20 +276,19 @@ kept-same f g e some =
     true-both (isOpen f) (eqb (f .number) (g .number)) (ap not (ne-eqb (f .number) 0 (λ z. some (sym e ∙ z)))) (eq-eqb (f .number) (g .number) e)
 
 -- ---- a place that is all zero
-pub zero-place : (f : Filter) → (not (eqb (f .number) 0) || not (eqb (f .area) 0) || not (eqb (f .choice) 0)) ≡ false → isZeroPlace f ≡ true
-zero-place f = go (eqb (f .number) 0) (eqb (f .area) 0) (eqb (f .choice) 0)
+pub zero-place : (f : Filter) → (not (eqb (f .number) 0) || not (eqb (f .area) 0)) ≡ false → isZeroPlace f ≡ true
+zero-place f = go (eqb (f .number) 0) (eqb (f .area) 0)
   where
-    go : (a b c : Bool) → (not a || not b || not c) ≡ false → (a && (b && c)) ≡ true
-    go true true true e = refl
-    go true true false e = sym e
-    go true false c e = sym e
-    go false b c e = sym e
+    go : (a b : Bool) → (not a || not b) ≡ false → (a && b) ≡ true
+    go true true e = refl
+    go true false e = sym e
+    go false b e = sym e
 
 zero-fits : (next : ℕ) (f : Filter) → isZeroPlace f ≡ true → fitsPlace next f ≡ true
-zero-fits next f e = let p = both-true (eqb (f .number) 0) (isZeroFilter f) e in rw (p .0) (p .1)
+zero-fits next f e = let p = both-true (eqb (f .number) 0) (eqb (f .area) 0) e in rw (p .0) (p .1)
 
 zero-stands : (k : ℕ) (f : Filter) → isZeroPlace f ≡ true → standsOn k f ≡ false
-zero-stands k f e = rw (both-true (eqb (f .number) 0) (isZeroFilter f) e .0)
+zero-stands k f e = rw (both-true (eqb (f .number) 0) (eqb (f .area) 0) e .0)
 
 zero-unlike : (f g : Filter) → isZeroPlace g ≡ true → sameNumber f g ≡ false
 zero-unlike f g e = go (sameNumber f g) refl
@@ -305,7 +298,19 @@ zero-unlike f g e = go (sameNumber f g) refl
     go true q =
         absurd
         (eqb-false (f .number) 0 (not-true _ (both-true (isOpen f) (eqb (f .number) (g .number)) q .0))
-        (same-kept f g q ∙ eqb-true (g .number) 0 (both-true (eqb (g .number) 0) (isZeroFilter g) e .0)))
+        (same-kept f g q ∙ eqb-true (g .number) 0 (both-true (eqb (g .number) 0) (eqb (g .area) 0) e .0)))
+
+zero-behind : (filters : List Filter) (i j : ℕ) → all isZeroPlace (drop i filters) ≡ true → i ≤ j → getD filters j freeFilter .number ≡ 0
+zero-behind filters i j zeros b = go (decLt j (length filters))
+  where
+    go : Dec (j < length filters) → getD filters j freeFilter .number ≡ 0
+    go (no n) = ap (λ (f : Filter). f .number) (List·getD-eq-default filters freeFilter (omega arith))
+    go (yes h) =
+        let is : i + (j - i) ≡ j = omega arith in
+        let at : getD (drop i filters) (j - i) freeFilter ≡ getD filters j freeFilter = getD-drop i filters (j - i) freeFilter ∙ ap (λ (n : ℕ). getD filters n freeFilter) is in
+        let inside : j - i < length (drop i filters) = rw (length-drop i filters) (omega arith) in
+        let zero = all-at isZeroPlace (drop i filters) freeFilter zeros (j - i) inside in
+        ap (λ (f : Filter). f .number) (sym at) ∙ eqb-true (getD (drop i filters) (j - i) freeFilter .number) 0 (both-true (eqb (getD (drop i filters) (j - i) freeFilter .number) 0) (eqb (getD (drop i filters) (j - i) freeFilter .area) 0) zero .0)
 
 -- ---- the pass over the places
 -- what is known once i places are passed
@@ -377,11 +382,18 @@ module _ (next : ℕ) (filters : List Filter) (counts met numbers : List ℕ) (i
 
   -- once all are passed but those that are all zero
   module _ (zeros : all isZeroPlace (drop i filters) ≡ true) where
-    pub passed-sound : (all (fitsPlace next) filters && apart sameNumber filters) ≡ true
-    passed-sound =
-        true-both (all (fitsPlace next) filters) (apart sameNumber filters)
+    -- what is left to know are the choices, by the numbers kept
+    pub passed-sound : (choices : List ℕ)
+        → (all (fitsPlace next) filters && apart sameNumber filters && all soundPlace (placed filters choices)) ≡ all soundPlace (placed (map known numbers) choices)
+    passed-sound choices =
+        ap₂ (λ (b c : Bool). b && c && all soundPlace (placed filters choices))
         (p .ranged ∙ all-weaker (fitsPlace next) isZeroPlace (drop i filters) (zero-fits next) zeros)
         (apart-front sameNumber filters freeFilter i isZeroPlace (p .unlike .differ) zero-unlike zeros)
+        ∙ same-choices filters (map known numbers) choices (sym (length-map numbers known ∙ p .kept .long)) (λ j. sym (numbers-are j (decLt j i)) ∙ ap (λ (f : Filter). f .number) (sym (List·getD-map known numbers j 0)))
+      where
+        numbers-are : (j : ℕ) → Dec (j < i) → getD numbers j 0 ≡ getD filters j freeFilter .number
+        numbers-are j (yes b) = p .kept .passed j b
+        numbers-are j (no n) = p .kept .behind j (omega arith) ∙ sym (zero-behind filters i j zeros (omega arith))
 
     pub passed-counts : Counts filters counts
     passed-counts = (p .eight, right)

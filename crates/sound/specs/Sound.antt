@@ -8,7 +8,7 @@ use Rattle.ground.specs.House.{lastFilterPid}
 use Rattle.ground.specs.Walk.{all, apart, count}
 use Rattle.gather.specs.Memory.{heldOf, soundMarks}
 use Rattle.state.specs.State.{isUsed, isOpen, standsOn, freeArea}
-use Rattle.state.specs.Choice.{soundChoice, choiceOf}
+use Rattle.state.specs.Choice.{soundChoice, choiceOf, Placed, placesOf}
 use Rattle.state.specs.declared.Area.{Area}
 use Rattle.state.specs.declared.Filter.{Filter}
 use Rattle.state.specs.declared.State.{State}
@@ -26,18 +26,18 @@ soundArea a = cond (isUsed a) (leb (a .pid .0) lastFilterPid && soundMarks (a .m
 abbrev pub samePid : Area → Area → Bool
 samePid a b = isUsed a && isUsed b && eqb (a .pid .0) (b .pid .0)
 
--- "records of free .. places are all zero"; there the choice is all
-abbrev pub isZeroFilter : Filter → Bool
-isZeroFilter f = eqb (f .area) 0 && eqb (f .choice) 0
-
--- "open numbers .. are at least 1 and below the next number to give"; "every open filter stands on a used area"; an open filter's choice is "one table_id, 0 to 254, or all" (document 02, ticket 2)
+-- "open numbers .. are at least 1 and below the next number to give"; "every open filter stands on a used area"; "records of free .. places are all zero"
 abbrev pub soundFilter : ℕ → List Area → Filter → Bool
 soundFilter next areas f =
-    cond (isOpen f) (ltb (f .number) next && isUsed (getD areas (f .area) freeArea) && soundChoice (choiceOf (f .choice))) (isZeroFilter f)
+    cond (isOpen f) (ltb (f .number) next && isUsed (getD areas (f .area) freeArea)) (eqb (f .area) 0)
 
 -- two open filters with one number
 abbrev pub sameNumber : Filter → Filter → Bool
 sameNumber f g = isOpen f && eqb (f .number) (g .number)
+
+-- "The filter record gains that choice and soundness covers it" (document 02, ticket 2): an open filter's choice is "one table_id, 0 to 254, or all", and at a free place, whose record is all zero, it is all
+abbrev pub soundPlace : Placed → Bool
+soundPlace p = cond (isOpen (p .filter)) (soundChoice (choiceOf (p .choice))) (eqb (p .choice) 0)
 
 -- "each area's user count is the number of open filters on it", from area i on
 abbrev pub counted : List Filter → ℕ → List Area → Bool
@@ -56,4 +56,5 @@ sound s =
     && apart samePid (s .areas)
     && all (soundFilter (s .next) (s .areas)) (s .filters)
     && apart sameNumber (s .filters)
+    && all soundPlace (placesOf s)
     && counted (s .filters) 0 (s .areas)

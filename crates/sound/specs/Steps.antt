@@ -3,13 +3,13 @@ use mathlib.Core.Path.{_≡_}
 use mathlib.Core.Bool.{Bool, true, cond, not, _&&_}
 use mathlib.Core.List.{List, [], _∷_}
 use Prim.Native.Nat.{ℕ, _+_, _%_, _<_}
-use lib.Dec.{ltb, leb, eqb}
+use lib.Dec.{ltb, eqb}
 use lib.ListN.{length, getD, set}
 use Rattle.ground.specs.Walk.{all, count}
 use Rattle.state.specs.State.{isOpen, isUsed, standsOn}
 use Rattle.state.specs.declared.Area.{Area}
 use Rattle.state.specs.declared.Filter.{Filter}
-use Rattle.sound.specs.Sound.{isZeroArea, isZeroFilter}
+use Rattle.sound.specs.Sound.{isZeroArea}
 
 -- a number is none of these
 abbrev pub isNew : ℕ → List ℕ → Bool
@@ -23,13 +23,17 @@ pidKept a = cond (isUsed a) (a .pid .0) 0xFFFF
 abbrev pub numberKept : Filter → ℕ
 numberKept f = f .number
 
+-- a filter of which the number alone counts
+abbrev pub known : ℕ → Filter
+known number = record { number = number; area = 0 }
+
 -- a place's record is all zero
 abbrev pub isZeroPlace : Filter → Bool
-isZeroPlace f = eqb (f .number) 0 && isZeroFilter f
+isZeroPlace f = eqb (f .number) 0 && eqb (f .area) 0
 
--- a free place is all zero, an open one has a number below the next, an area of the eight and the number of a choice
+-- a free place is all zero, an open one has a number below the next and an area of the eight
 abbrev pub fitsPlace : ℕ → Filter → Bool
-fitsPlace next f = cond (isOpen f) (ltb (f .number) next && ltb (f .area) 8 && leb (f .choice) 255) (isZeroFilter f)
+fitsPlace next f = cond (isOpen f) (ltb (f .number) next && ltb (f .area) 8) (eqb (f .area) 0)
 
 -- one user more at an open filter's area
 abbrev pub countedIn : List ℕ → Filter → List ℕ

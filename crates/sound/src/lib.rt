@@ -1,13 +1,15 @@
-// Whether a state is sound, each clause of "Sound means": one pass over the filter places, which counts those on each area, and one over the areas, which holds their users to what was counted.
+// Whether a state is sound, each clause of "Sound means": one pass over the filter places, which counts those on each area, one over their choices, and one over the areas, which holds their users to what was counted.
 ghost use mathlib.Core.Path.{_≡_};
 ghost use mathlib.Core.Bool.{true, _&&_};
+ghost use mathlib.Core.List.{map};
 ghost use Prim.Native.Nat.{ℕ, _≤_, _<_};
 ghost use lib.ListN.{drop, getD, replicate};
 ghost use Rattle.ground.specs.Walk.{all, apart};
 ghost use Rattle.state.specs.State.{isOpen};
-ghost use Rattle.sound.specs.Sound.{soundArea, samePid, sameNumber, soundNext};
+ghost use Rattle.state.specs.Choice.{placed};
+ghost use Rattle.sound.specs.Sound.{soundArea, samePid, sameNumber, soundNext, soundPlace};
 ghost use Rattle.sound.specs.Promises.{TellsSoundState};
-ghost use Rattle.sound.specs.Steps.{isNew, isZeroPlace, fitsPlace, countedIn, metIn, isMet, Counts, isFreeArea, isNone, agree};
+ghost use Rattle.sound.specs.Steps.{known, isNew, isZeroPlace, fitsPlace, countedIn, metIn, isMet, Counts, isFreeArea, isNone, agree};
 use gather::Marks;
 use state::AREAS;
 use state::Area;
@@ -60,9 +62,9 @@ fn fits_place(filter: Filter, next: u32) -> bool
 {
     let number = filter.number;
     if number != 0 {
-        return ((number as u32) < next) & (filter.area < 8) & (filter.choice <= LAST_CHOICE);
+        return ((number as u32) < next) & (filter.area < 8);
     }
-    (filter.area == 0) & (filter.choice == 0)
+    filter.area == 0
 }
 
 // An open filter counted at its area and met in its class; whether its class was met before.
@@ -91,7 +93,7 @@ fn end_of_places(filters: [Filter; PLACES]) -> usize
     let mut end: usize = PLACES;
     while 0 < end {
         let filter = filters[end - 1];
-        if (filter.number != 0) | (filter.area != 0) | (filter.choice != 0) {
+        if (filter.number != 0) | (filter.area != 0) {
             return end;
         }
         end -= 1;
@@ -99,10 +101,35 @@ fn end_of_places(filters: [Filter; PLACES]) -> usize
     0
 }
 
-// Whether the places are in range and no number is open twice, and how many filters stand on each area: one pass, in which only a filter whose class was met before is compared with those before it.
-fn places_are_sound(filters: [Filter; PLACES], next: u32, counts: &mut [u8; AREAS]) -> bool
+// Whether a choice is one, and all where the filter has no number.
+fn choice_fits(number: u16, choice: u16) -> bool
+    ensures { λ r. ⌜ r ≡ soundPlace (record { filter = known number; choice = choice }) ⌝ }
+{
+    (choice == 0) | ((number != 0) & (choice <= LAST_CHOICE))
+}
+
+// Whether the choices of filters with these numbers are sound: all are looked at, so that the compiler can test many at once.
+fn choices_fit(numbers: [u16; PLACES], choices: [u16; PLACES]) -> bool
+    ensures { λ r. ⌜ r ≡ all soundPlace (placed (map known numbers) choices) ⌝ }
+{
+    let mut fits = true;
+    let mut i: usize = 0;
+    while i < PLACES {
+        fits = fits & choice_fits(numbers[i], choices[i]);
+        i += 1;
+    }
+    fits
+}
+
+// Whether the places are in range, no number is open twice and the choices are sound, and how many filters stand on each area: one pass, in which only a filter whose class was met before is compared with those before it.
+fn places_are_sound(
+    filters: [Filter; PLACES],
+    choices: [u16; PLACES],
+    next: u32,
+    counts: &mut [u8; AREAS],
+) -> bool
     requires { ⌜ now counts ≡ replicate 8 0 ⌝ }
-    ensures { λ r. ⌜ (r ≡ (all (fitsPlace next) filters && apart sameNumber filters)) × (r ≡ true → Counts filters (now (counts .exit))) ⌝ }
+    ensures { λ r. ⌜ (r ≡ (all (fitsPlace next) filters && apart sameNumber filters && all soundPlace (placed filters choices))) × (r ≡ true → Counts filters (now (counts .exit))) ⌝ }
 {
     let end = end_of_places(filters);
     let mut met = [0u8; 256];
@@ -121,7 +148,7 @@ fn places_are_sound(filters: [Filter; PLACES], next: u32, counts: &mut [u8; AREA
         numbers[i] = filter.number;
         i += 1;
     }
-    true
+    choices_fit(numbers, choices)
 }
 
 // How many areas there are up to the last that is not all zero, or on which a filter was counted: those behind it need no pass. All eight bytes of a record are tested at once, and so is the count.
@@ -194,12 +221,13 @@ pub fn is_sound(state: State) -> bool
 {
     let areas = state.areas;
     let filters = state.filters;
+    let choices = state.choices;
     let next = state.next;
     if !next_is_sound(next) {
         return false;
     }
     let mut counts = [0u8; AREAS];
-    if !places_are_sound(filters, next, &mut counts) {
+    if !places_are_sound(filters, choices, next, &mut counts) {
         return false;
     }
     areas_are_sound(areas, counts)

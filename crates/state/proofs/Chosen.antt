@@ -1,15 +1,19 @@
--- A choice and its number in a filter's record say the same.
+-- A choice and its number in the state say the same, and the record at a place is made of what stands there in both lists.
 -- Assumes nothing.
 use mathlib.Core.Path.{_≡_, refl, sym, _∙_, ap}
-use mathlib.Core.Bool.{Bool, true, false, cond, _&&_, _||_}
+use mathlib.Core.Bool.{Bool, true, false, _&&_, _||_}
+use mathlib.Core.List.{List, [], _∷_}
 use Prim.Native.Nat.{ℕ, zero, suc, _+_, _≤_, _<_}
+use native.Mathlib.Nat.{not-suc-le-zero, le-of-suc-le-suc}
 use native.Mathlib.Decide.{ℕ-discrete, decLe}
 use native.Mathlib.Numerals.{add-one}
 use native.Mathlib.Omega.{arith}
 use borrow.Author.Tests.{eq-eqb, ne-eqb, le-leb, lt-leb}
 use lib.Dec.{eqb, leb}
-use Rattle.state.specs.State.{standsOn}
-use Rattle.state.specs.Choice.{soundChoice, lets, codeOf, choiceOf, isFor}
+use lib.ListN.{length, getD, drop}
+use lib.Seq.{getD-drop}
+use Rattle.state.specs.State.{standsOn, freeFilter}
+use Rattle.state.specs.Choice.{soundChoice, lets, codeOf, choiceOf, placed, freePlace, isFor}
 use Rattle.state.specs.declared.Choice.{Choice}
 use Rattle.state.specs.declared.Choice.the-variants.{All, One}
 use Rattle.state.specs.declared.Filter.{Filter}
@@ -22,6 +26,9 @@ choice-back (One table) = refl
 pub code-back : (code : ℕ) → codeOf (choiceOf code) ≡ code
 code-back zero = refl
 code-back (suc table) = refl
+
+one-add : (j : ℕ) → 1 + j ≡ suc j
+one-add j = omega arith
 
 -- one more on both sides
 eqb-suc : (m n : ℕ) → eqb m n ≡ eqb (suc m) (suc n)
@@ -43,9 +50,23 @@ pub lets-code : (code table : ℕ) → lets (choiceOf code) table ≡ (eqb code 
 lets-code zero table = refl
 lets-code (suc own) table = rw (ne-eqb (suc own) 0 (omega arith), add-one table) (eqb-suc own table)
 
-pub for-code : (i table : ℕ) (f : Filter) → (standsOn i f && (eqb (f .choice) 0 || eqb (f .choice) (table + 1))) ≡ isFor i table f
-for-code i table f = ap (λ (b : Bool). standsOn i f && b) (sym (lets-code (f .choice) table))
+pub for-code : (i table : ℕ) (f : Filter) (code : ℕ) → (standsOn i f && (eqb code 0 || eqb code (table + 1))) ≡ isFor i table (record { filter = f; choice = code })
+for-code i table f code = ap (λ (b : Bool). standsOn i f && b) (sym (lets-code code table))
 
+-- ---- the records
+pub placed-length : (filters : List Filter) (choices : List ℕ) → length (placed filters choices) ≡ length filters
+placed-length [] choices = refl
+placed-length (f ∷ filters) choices = ap suc (placed-length filters (drop 1 choices))
+
+pub placed-at : (filters : List Filter) (choices : List ℕ) (j : ℕ) → j < length filters
+    → getD (placed filters choices) j freePlace ≡ record { filter = getD filters j freeFilter; choice = getD choices j 0 }
+placed-at [] choices j h = absurd (not-suc-le-zero h)
+placed-at (f ∷ filters) choices zero h = refl
+placed-at (f ∷ filters) choices (suc j) h =
+    placed-at filters (drop 1 choices) j (le-of-suc-le-suc h)
+    ∙ ap (λ (c : ℕ). record { filter = getD filters j freeFilter; choice = c }) (getD-drop 1 choices j 0 ∙ ap (λ (n : ℕ). getD choices n 0) (one-add j))
+
+-- ---- soundness
 -- a sound choice's number is at most 255
 pub sound-code : (code : ℕ) → soundChoice (choiceOf code) ≡ leb code 255
 sound-code zero = refl

@@ -2,7 +2,7 @@
 -- Assumes nothing.
 use Rattle.ground.proofs.Outcome.{determined}
 use Rattle.state.specs.State.{fresh, areaOf, freeAreaOf, freePlaceOf, placeOf}
-use Rattle.state.specs.Choice.{placesFor}
+use Rattle.state.specs.Choice.{placed, placesFor}
 use Rattle.state.specs.Claims.{Claims}
 
 pub claims : Claims
@@ -13,5 +13,5 @@ claims =
       findsFreeArea = λ areas. determined (freeAreaOf areas);
       findsFreePlace = λ filters. determined (freePlaceOf filters);
       findsPlace = λ filters number. determined (placeOf number filters);
-      tellsPlaces = λ filters area table. determined (placesFor area table filters);
+      tellsPlaces = λ filters choices area table. determined (placesFor area table (placed filters choices));
     }

@@ -13,4 +13,4 @@ pub record Claims : Type 0 where
   pub findsFreeArea : (areas : List Area) → Determined (FindsFreeArea areas)
   pub findsFreePlace : (filters : List Filter) → Determined (FindsFreePlace filters)
   pub findsPlace : (filters : List Filter) (number : ℕ) → Determined (FindsPlace filters number)
-  pub tellsPlaces : (filters : List Filter) (area table : ℕ) → Determined (TellsPlaces filters area table)
+  pub tellsPlaces : (filters : List Filter) (choices : List ℕ) (area table : ℕ) → Determined (TellsPlaces filters choices area table)

@@ -3,7 +3,7 @@ use mathlib.Core.Path.{_≡_}
 use mathlib.Core.List.{List}
 use Prim.Native.Nat.{ℕ}
 use Rattle.state.specs.State.{fresh, areaOf, freeAreaOf, freePlaceOf, placeOf}
-use Rattle.state.specs.Choice.{placesFor}
+use Rattle.state.specs.Choice.{placed, placesFor}
 use Rattle.state.specs.declared.Area.{Area}
 use Rattle.state.specs.declared.Filter.{Filter}
 use Rattle.state.specs.declared.State.{State}
@@ -29,5 +29,5 @@ abbrev pub FindsPlace : List Filter → ℕ → ℕ → Type 0
 FindsPlace filters number r = r ≡ placeOf number filters
 
 -- `places_for`
-abbrev pub TellsPlaces : List Filter → ℕ → ℕ → ℕ → Type 0
-TellsPlaces filters area table r = r ≡ placesFor area table filters
+abbrev pub TellsPlaces : List Filter → List ℕ → ℕ → ℕ → ℕ → Type 0
+TellsPlaces filters choices area table r = r ≡ placesFor area table (placed filters choices)

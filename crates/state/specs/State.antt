@@ -35,11 +35,11 @@ abbrev pub freeArea : Area
 freeArea = record { pid = record { 0 = 0 }; users = 0; marks = noMarks }
 
 abbrev pub freeFilter : Filter
-freeFilter = record { number = 0; area = 0; choice = 0 }
+freeFilter = record { number = 0; area = 0 }
 
 -- "A fresh state has only free ones, and next number 1"
 abbrev pub fresh : State
-fresh = record { areas = replicate areaCount freeArea; filters = replicate placeCount freeFilter; next = 1 }
+fresh = record { areas = replicate areaCount freeArea; filters = replicate placeCount freeFilter; choices = replicate placeCount 0; next = 1 }
 
 -- an area has this PID
 abbrev pub hasPid : ℕ → Area → Bool

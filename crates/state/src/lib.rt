@@ -28,7 +28,7 @@ pub struct Area {
     pub marks: Marks,
 }
 
-// The number of a choice in a filter's record is at most this one, that of table_id 254.
+// A choice's number is at most this one, that of table_id 254.
 pub const LAST_CHOICE: u16 = 255;
 
 // What a filter lets through: every section, or those of one table_id.
@@ -37,17 +37,18 @@ pub enum Choice {
     One(u8),
 }
 
-// A filter place, open where it has a number: the number, the area that the filter stands on, and its choice, 0 for all and 1 + table_id for one, so that any bytes are a record.
+// A filter place, open where it has a number: the number, and the area that the filter stands on.
 pub struct Filter {
     pub number: u16,
     pub area: u8,
-    pub choice: u16,
 }
 
-// The driver's state: 8 areas, 32 filter places, and the next number to give.
+// The driver's state: 8 areas, 32 filter places, the choice of each, and the next number to give.
+// A choice is a number, 0 for all and 1 + table_id for one, so that any bytes are a state; the choices stand beside the filters, so that a filter keeps its four bytes and the compiler copies either list without a call.
 pub struct State {
     pub areas: [Area; AREAS],
     pub filters: [Filter; PLACES],
+    pub choices: [u16; PLACES],
     pub next: u32,
 }
 
@@ -67,14 +68,11 @@ pub fn fresh() -> State
         users: 0,
         marks,
     };
-    let filter = Filter {
-        number: 0,
-        area: 0,
-        choice: 0,
-    };
+    let filter = Filter { number: 0, area: 0 };
     State {
         areas: [area; AREAS],
         filters: [filter; PLACES],
+        choices: [0; PLACES],
         next: 1,
     }
 }
@@ -141,25 +139,25 @@ pub fn place_of(filters: [Filter; PLACES], number: u16) -> usize
 }
 
 // Whether a section of this table_id on this area is for the filter at a place, as a number.
-fn is_for(filter: Filter, area: u8, table: u8) -> u32
-    ensures { λ r. ⌜ r ≡ cond (isFor area table filter) 1 0 ⌝ }
+fn is_for(filter: Filter, choice: u16, area: u8, table: u8) -> u32
+    ensures { λ r. ⌜ r ≡ cond (isFor area table (record { filter = filter; choice = choice })) 1 0 ⌝ }
 {
     let stands = (filter.number != 0) & (filter.area == area);
-    if stands & ((filter.choice == 0) | (filter.choice == table as u16 + 1)) {
+    if stands & ((choice == 0) | (choice == table as u16 + 1)) {
         return 1;
     }
     0
 }
 
 // The set of places that a section of this table_id on this area is for, the first place the least significant bit.
-pub fn places_for(filters: [Filter; PLACES], area: u8, table: u8) -> u32
-    ensures { λ r. ⌜ TellsPlaces filters area table r ⌝ }
+pub fn places_for(filters: [Filter; PLACES], choices: [u16; PLACES], area: u8, table: u8) -> u32
+    ensures { λ r. ⌜ TellsPlaces filters choices area table r ⌝ }
 {
     let mut places: u32 = 0;
     let mut i: usize = 0;
     while i < PLACES {
         let filter = filters[i];
-        places = places + (is_for(filter, area, table) << (i as u32));
+        places = places + (is_for(filter, choices[i], area, table) << (i as u32));
         i += 1;
     }
     places

@@ -17,8 +17,8 @@ pub fn generate(random: &mut Random, script: &mut Script) {
         script.open(random.pick(&PIDS), choice(random));
         open.push(number);
         if random.one_in(500) {
-            let packet_pid = random.pick(&PIDS);
-            let packet = any_packet(random, packet_pid, 0);
+            let pid = random.pick(&PIDS);
+            let packet = any_packet(random, pid, 0);
             script.packet(&packet);
             script.open(random.pick(&PIDS), Choice::One(255));
         }

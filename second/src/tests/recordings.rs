@@ -3,6 +3,7 @@
 use crate::filters_and_areas::open;
 use crate::from_payload_to_sections::{packet_call, Answer};
 use crate::state::{Choice, State};
+use crate::{exercise, generate};
 
 const RECORDING: &str = concat!(
     env!("CARGO_MANIFEST_DIR"),
@@ -28,4 +29,23 @@ fn one_hundred_and_sixty_seven_sections() {
         }
     }
     assert_eq!((sections, jumps), (167, 7));
+}
+
+#[test]
+fn a_recording_as_a_script() {
+    let (mut script, mut output) = (Vec::new(), Vec::new());
+    let bytes = std::fs::read(RECORDING).unwrap();
+    generate::recording::run(&bytes, &mut script).unwrap();
+    exercise::run(&mut &*script, &mut output).unwrap();
+    let output = String::from_utf8(output).unwrap();
+    let starting = |start: &str| {
+        output
+            .lines()
+            .filter(|line| line.starts_with(start))
+            .count()
+    };
+    assert_eq!(starting("open given"), 24);
+    assert_eq!(starting("packet"), 500);
+    assert_eq!(starting("packet wanted"), 500);
+    assert_eq!(output.lines().count(), 526);
 }

@@ -34,6 +34,12 @@ mul-filters c = search needs
 array-set-from-filters : tie.Need-array-set-from-filters
 array-set-from-filters c = search needs
 
+mul-choices : tie.Need-mul-choices
+mul-choices c = search needs
+
+array-write-choices : tie.Need-array-write-choices
+array-write-choices c = search needs
+
 returns : tie.Need-returns
 returns c = rw (c .without-user .ensures)
 
@@ -51,4 +57,6 @@ without-filter-spec =
     array-set-from-areas
     mul-filters
     array-set-from-filters
+    mul-choices
+    array-write-choices
     returns)

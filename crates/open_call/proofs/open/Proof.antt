@@ -154,10 +154,11 @@ returns-7 c =
     let chosen : not (soundChoice (a .choice)) ≡ false = ap not (choice-sound (a .choice) (rw (code-of .ensures) at (c .before .before .before .before .before .before .before .before .before .before .if3 .left))) in
     let free-place = c .before .before .before .before .before .before .free-place in
     let area-for = c .before .before .before .area-for in
+    let good = c .before .before .before .before .before .before .before .before .before .before .before .before .before .before .before .before .good in
     let s = a .state in
     let fine : not (sound s) ≡ false = ap not (sym (is-sound .ensures)) ∙ if1 .left in
-    let places : length (s .filters) ≡ 32 = search (needs, mapped-length) in
-    let areas : length (s .areas) ≡ 8 = search (needs, mapped-length) in
+    let places : length (s .filters) ≡ 32 = search (needs, mapped-length, good) in
+    let areas : length (s .areas) ≡ 8 = search (needs, mapped-length, good) in
     let room : freePlaceOf (s .filters) < length (s .filters) = omega arith in
     let free : areaFor (a .pid .0) (s .areas) < length (s .areas) = omega arith in
     rw (c .before .with-filter .ensures, code-of .ensures, area-for .ensures, free-place .ensures)

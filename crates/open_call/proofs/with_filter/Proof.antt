@@ -19,11 +19,11 @@ mul-areas c = search needs
 array-set-from-areas : tie.Need-array-set-from-areas
 array-set-from-areas c = search needs
 
-cast-t16 : tie.Need-cast-t16
-cast-t16 c = search needs
-
 cast-t17 : tie.Need-cast-t17
 cast-t17 c = search needs
+
+cast-t18 : tie.Need-cast-t18
+cast-t18 c = search needs
 
 mul-filters : tie.Need-mul-filters
 mul-filters c = search needs
@@ -31,8 +31,14 @@ mul-filters c = search needs
 array-set-from-filters : tie.Need-array-set-from-filters
 array-set-from-filters c = search needs
 
-add-t23 : tie.Need-add-t23
-add-t23 c = search needs
+mul-choices : tie.Need-mul-choices
+mul-choices c = search needs
+
+array-write-choices : tie.Need-array-write-choices
+array-write-choices c = search needs
+
+add-t27 : tie.Need-add-t27
+add-t27 c = search needs
 
 returns : tie.Need-returns
 returns c = rw (c .with-user .ensures)
@@ -46,9 +52,11 @@ with-filter-spec =
     with-user-requires
     mul-areas
     array-set-from-areas
-    cast-t16
     cast-t17
+    cast-t18
     mul-filters
     array-set-from-filters
-    add-t23
+    mul-choices
+    array-write-choices
+    add-t27
     returns)

@@ -33,7 +33,7 @@ array-copy-out-filter : tie.Need-array-copy-out-filter Inv-loop μ-loop
 array-copy-out-filter c = search needs
 
 returns : tie.Need-returns Inv-loop μ-loop
-returns c = c .before .before .before .before .before .before .loop .inv
+returns c = c .before .before .before .before .before .loop .inv
 
 sub-end : tie.Need-sub-end Inv-loop μ-loop
 sub-end c = search needs
@@ -43,8 +43,8 @@ loop-less c = search needs
 
 loop-again : tie.Need-loop-again Inv-loop μ-loop
 loop-again c =
-    let at = c .before .before .before .before .before .before .loop in
-    let l = c .before .before .before .before .before .before .before .args .t1 in
+    let at = c .before .before .before .before .before .loop in
+    let l = c .before .before .before .before .before .before .args .t1 in
     let long : length l ≡ 32 = search needs in
     (omega arith, all-back isZeroPlace l (at .end) freeFilter (omega arith) (omega arith) (zero-place (getD l (at .end - 1) freeFilter) (c .if1 .left)) (at .inv .1))
 

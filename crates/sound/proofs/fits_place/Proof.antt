@@ -9,10 +9,10 @@ cast-result : tie.Need-cast-result
 cast-result c = search needs
 
 returns : tie.Need-returns
-returns c = rw (ne-eqb _ _ (c .before .before .if1 .taken))
+returns c = rw (ne-eqb _ _ (c .before .if1 .taken))
 
 returns-2 : tie.Need-returns-2
-returns-2 c = rw (eq-eqb _ _ (c .before .before .if1 .left))
+returns-2 c = rw (eq-eqb _ _ (c .before .if1 .left))
 
 pub fits-place-spec : {M : Type 1} → statement M
 fits-place-spec = tie.close (tie.spec cast-result returns returns-2)

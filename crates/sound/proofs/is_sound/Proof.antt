@@ -26,11 +26,11 @@ places-are-sound-requires c κs = search needs
 returns-2 : tie.Need-returns-2
 unfolding sound
 returns-2 c =
-    let s = c .before .before .before .before .before .before .before .args .state in
+    let s = c .before .before .before .before .before .before .before .before .args .state in
     let long : length (s .areas) ≡ 8 = search (needs, mapped-length) in
     let out = sym (c .before .places-are-sound .ensures .0) ∙ not-true _ (c .if2 .taken) in
     rw (sym (c .before .before .before .before .next-is-sound .ensures) ∙ not-false _ (c .before .before .before .if1 .left))
-    (sym (regrouped (all soundArea (s .areas) && apart samePid (s .areas)) _ _ _ ∙ rw (clauses-out (s .next) (s .areas) (s .filters) long out, and-false (all soundArea (s .areas) && apart samePid (s .areas)))))
+    (sym (regrouped (all soundArea (s .areas) && apart samePid (s .areas)) _ _ _ _ ∙ rw (clauses-out (s .next) (s .areas) (s .filters) (s .choices) long out, and-false (all soundArea (s .areas) && apart samePid (s .areas)))))
 
 areas-are-sound-requires : tie.Need-areas-are-sound-requires
 areas-are-sound-requires c κs = search needs
@@ -38,18 +38,18 @@ areas-are-sound-requires c κs = search needs
 returns-3 : tie.Need-returns-3
 unfolding sound
 returns-3 c =
-    let s = c .before .before .before .before .before .before .before .before .args .state in
+    let s = c .before .before .before .before .before .before .before .before .before .args .state in
     let long : length (s .areas) ≡ 8 = search (needs, mapped-length) in
     let places = c .before .before .places-are-sound in
-    let counts = places .last .1 .1 .0 in
+    let counts = places .last .1 .1 .1 .0 in
     let ok = not-false _ (c .before .if2 .left) in
     let sound-areas = all soundArea (s .areas) && apart samePid (s .areas) in
     rw (sym (c .before .before .before .before .before .next-is-sound .ensures) ∙ not-false _ (c .before .before .before .before .if1 .left))
     (c .areas-are-sound .ensures
     ∙ ap (λ (b : Bool). sound-areas && b)
     (agree-counts (s .filters) counts (s .areas) long (places .ensures .1 ok)
-    ∙ sym (clauses-left (s .next) (s .areas) (s .filters) long (sym (places .ensures .0) ∙ ok)))
-    ∙ sym (regrouped sound-areas _ _ _))
+    ∙ sym (clauses-left (s .next) (s .areas) (s .filters) (s .choices) long (sym (places .ensures .0) ∙ ok)))
+    ∙ sym (regrouped sound-areas _ _ _ _))
 
 pub is-sound-spec : {M : Type 1} → statement M
 is-sound-spec =

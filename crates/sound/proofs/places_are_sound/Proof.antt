@@ -12,17 +12,18 @@ use Rattle.ground.specs.Walk.{all, apart}
 use Rattle.ground.proofs.Test.{and-false}
 use Rattle.ground.proofs.Walk.{all-stops}
 use Rattle.state.specs.State.{freeFilter}
-use Rattle.sound.specs.Sound.{sameNumber}
+use Rattle.state.specs.Choice.{placed}
+use Rattle.sound.specs.Sound.{sameNumber, soundPlace}
 use Rattle.sound.specs.Steps.{fitsPlace, isZeroPlace}
 use Rattle.sound.proofs.Pass.{Passed, passed-none, passed-unmet, passed-compared, passed-met, passed-sound, passed-counts, counts-small, open-inside}
 use Rattle.sound.proofs.places_are_sound.Statement.{statement}
 use Rattle.sound.proofs.places_are_sound.Tie as tie
 
 abbrev Inv-loop : tie.InvT-loop
-Inv-loop next counts₀ filters end met₀ numbers₀ i₀ counts met numbers i = Passed next filters counts met numbers i × (i ≤ end)
+Inv-loop choices next counts₀ filters end met₀ numbers₀ i₀ counts met numbers i = Passed next filters counts met numbers i × (i ≤ end)
 
 abbrev μ-loop : tie.MeasureT-loop
-μ-loop next counts₀ filters end met₀ numbers₀ i₀ counts met numbers i = end - i
+μ-loop choices next counts₀ filters end met₀ numbers₀ i₀ counts met numbers i = end - i
 
 end-of-places-requires : tie.Need-end-of-places-requires Inv-loop μ-loop
 end-of-places-requires c κs = search needs
@@ -50,7 +51,7 @@ returns c =
     let out =
     all-stops (fitsPlace (a .next)) (a .t1) (at .i) (all (fitsPlace (a .next)) (a .t1)) (at .inv .0 .ranged) freeFilter (omega (arith, c .before .before .before .before .before .end-of-places .ensures .0))
     (sym (c .before .fits-place .ensures) ∙ not-true _ (c .if1 .taken)) in
-    (sym (ap (λ (b : Bool). b && apart sameNumber (a .t1)) out), λ e. absurd (false≢true e))
+    (sym (ap (λ (b : Bool). b && apart sameNumber (a .t1) && all soundPlace (placed (a .t1) (a .choices))) out), λ e. absurd (false≢true e))
 
 tally-requires : tie.Need-tally-requires Inv-loop μ-loop
 tally-requires c κs =
@@ -107,14 +108,18 @@ loop-again c =
       omega arith,
     )
 
+choices-fit-requires : tie.Need-choices-fit-requires Inv-loop μ-loop
+choices-fit-requires c κs = search needs
+
 returns-3 : tie.Need-returns-3 Inv-loop μ-loop
 returns-3 c =
-    let a = c .before .before .before .args in
-    let at = c .before .loop in
+    let a = c .before .before .before .before .args in
+    let at = c .before .before .loop in
+    let ended = c .before .before .before .end-of-places in
     let long : length (a .t1) ≡ 32 = search needs in
-    let done : at .i ≡ c .before .before .end-of-places .result = omega (arith, c .loop-test .left, at .inv .1) in
-    let zeros : all isZeroPlace (drop (at .i) (a .t1)) ≡ true = ap (λ (n : ℕ). all isZeroPlace (drop n (a .t1))) done ∙ c .before .before .end-of-places .ensures .1 in (
-      sym (passed-sound (a .next) (a .t1) (at .counts) (at .met) (at .numbers) (at .i) long (at .inv .0) zeros),
+    let done : at .i ≡ ended .result = omega (arith, c .before .loop-test .left, at .inv .1) in
+    let zeros : all isZeroPlace (drop (at .i) (a .t1)) ≡ true = ap (λ (n : ℕ). all isZeroPlace (drop n (a .t1))) done ∙ ended .ensures .1 in (
+      c .choices-fit .ensures ∙ sym (passed-sound (a .next) (a .t1) (at .counts) (at .met) (at .numbers) (at .i) long (at .inv .0) zeros (a .choices)),
       λ e. passed-counts (a .next) (a .t1) (at .counts) (at .met) (at .numbers) (at .i) long (at .inv .0) zeros,
     )
 
@@ -139,4 +144,5 @@ places-are-sound-spec =
     add-i
     loop-less
     loop-again
+    choices-fit-requires
     returns-3)

@@ -12,13 +12,13 @@ add-if1 c = search needs
 
 returns : tie.Need-returns
 returns c =
-    let a = c .before .before .before .before .before .args in
-    yes _ 1 0 (sym (for-code (a .area) (a .table) (a .filter)) ∙ c .if1 .taken) refl
+    let a = c .before .before .before .args in
+    yes _ 1 0 (sym (for-code (a .area) (a .table) (a .filter) (a .choice)) ∙ c .if1 .taken) refl
 
 returns-2 : tie.Need-returns-2
 returns-2 c =
-    let a = c .before .before .before .before .before .args in
-    no _ 1 0 (sym (for-code (a .area) (a .table) (a .filter)) ∙ c .if1 .left) refl
+    let a = c .before .before .before .args in
+    no _ 1 0 (sym (for-code (a .area) (a .table) (a .filter) (a .choice)) ∙ c .if1 .left) refl
 
 pub is-for-spec : {M : Type 1} → statement M
 is-for-spec = tie.close (tie.spec add-if1 returns returns-2)

@@ -6,17 +6,16 @@ use native.Mathlib.Omega.{arith}
 use native.Mathlib.Nat.{zero-add, one-mul}
 use lib.ListN.{length, drop}
 use borrow.Author.Needs.{needs}
-use Rattle.ground.proofs.Set.{set-ends}
-use Rattle.state.specs.Choice.{isFor, placesFor}
-use Rattle.state.proofs.Places.{places-go, places-room}
+use Rattle.state.specs.Choice.{placed, placesFor}
+use Rattle.state.proofs.Places.{places-go, places-room, places-end}
 use Rattle.state.proofs.places_for.Statement.{statement}
 use Rattle.state.proofs.places_for.Tie as tie
 
 abbrev Inv-loop : tie.InvT-loop
-Inv-loop area table filters places₀ i₀ places i = (i ≤ 32) × (places + 2 ^ i * placesFor area table (drop i filters) ≡ placesFor area table filters)
+Inv-loop area table filters choices places₀ i₀ places i = (i ≤ 32) × (places + 2 ^ i * placesFor area table (drop i (placed filters choices)) ≡ placesFor area table (placed filters choices))
 
 abbrev μ-loop : tie.MeasureT-loop
-μ-loop area table filters places₀ i₀ places i = 32 - i
+μ-loop area table filters choices places₀ i₀ places i = 32 - i
 
 loop-holds : tie.Need-loop-holds Inv-loop μ-loop
 loop-holds c = (omega arith, zero-add _ ∙ one-mul _)
@@ -26,6 +25,12 @@ mul-filter c = search needs
 
 array-copy-out-filter : tie.Need-array-copy-out-filter Inv-loop μ-loop
 array-copy-out-filter c = search needs
+
+mul-is-for : tie.Need-mul-is-for Inv-loop μ-loop
+mul-is-for c = search needs
+
+array-read-is-for : tie.Need-array-read-is-for Inv-loop μ-loop
+array-read-is-for c = search needs
 
 is-for-requires : tie.Need-is-for-requires Inv-loop μ-loop
 is-for-requires c κs = search needs
@@ -41,7 +46,7 @@ add-places c =
     let a = c .before .before .before .before .args in
     let l = c .before .before .before .loop in
     let long : length (a .t1) ≡ 32 = search needs in
-    let room = places-room (a .area) (a .table) (a .t1) (l .i) (l .places) (c .is-for .result) long (c .before .before .loop-test .taken) (l .inv .1) (c .is-for .ensures) in
+    let room = places-room (a .area) (a .table) (a .t1) (a .t2) (l .i) (l .places) long (l .inv .1) (c .is-for .result) (c .before .before .loop-test .taken) (c .is-for .ensures) in
     omega arith
 
 add-i : tie.Need-add-i Inv-loop μ-loop
@@ -56,16 +61,16 @@ loop-again c =
     let l = c .before .before .before .loop in
     let long : length (a .t1) ≡ 32 = search needs in (
       omega arith,
-      places-go (a .area) (a .table) (a .t1) (l .i) (l .places) (c .is-for .result) long (c .before .before .loop-test .taken) (l .inv .1) (c .is-for .ensures),
+      places-go (a .area) (a .table) (a .t1) (a .t2) (l .i) (l .places) long (l .inv .1) (c .is-for .result) (c .before .before .loop-test .taken) (c .is-for .ensures),
     )
 
 returns : tie.Need-returns Inv-loop μ-loop
 returns c =
     let a = c .before .before .args in
     let long : length (a .t1) ≡ 32 = search needs in
-    set-ends (isFor (a .area) (a .table)) (a .t1) (c .before .loop .i) _ _ (c .before .loop .inv .1) (omega arith)
+    places-end (a .area) (a .table) (a .t1) (a .t2) (c .before .loop .i) (c .before .loop .places) long (c .before .loop .inv .1) (omega arith)
 
 pub places-for-spec : {M : Type 1} → statement M
 places-for-spec =
     tie.close
-    (tie.spec Inv-loop μ-loop loop-holds mul-filter array-copy-out-filter is-for-requires cast-places shl-places add-places add-i loop-less loop-again returns)
+    (tie.spec Inv-loop μ-loop loop-holds mul-filter array-copy-out-filter mul-is-for array-read-is-for is-for-requires cast-places shl-places add-places add-i loop-less loop-again returns)

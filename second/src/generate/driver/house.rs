@@ -6,7 +6,7 @@ use super::super::random::Random;
 use super::super::script::Script;
 use super::states::{counter_before, filter_pid, some_number};
 use crate::filters_and_areas::{close, open};
-use crate::state::State;
+use crate::state::{Choice, State};
 
 pub fn house(random: &mut Random, script: &mut Script) {
     let kinds = random.between(7, 10);
@@ -36,6 +36,10 @@ pub fn house(random: &mut Random, script: &mut Script) {
                 let _ = open(&mut state, pid, choice);
             }
         }
+    }
+    // Mostly no place or no area is free here, and table_id 255 is still refused first.
+    for pid in [random.pick(&pids), filter_pid(random)] {
+        script.open(pid, Choice::One(255));
     }
     for _ in 0..random.below(12) {
         leave(random, script, &mut state);

@@ -9,10 +9,10 @@ use Rattle.exercise.proofs.records.print_places.Statement.{statement}
 use Rattle.exercise.proofs.records.print_places.Tie as tie
 
 abbrev Inv-loop : tie.InvT-loop
-Inv-loop text₀ at filters end₀ i₀ text end i = (i ≤ 32) × (length text ≡ length text₀)
+Inv-loop text₀ at filters choices end₀ i₀ text end i = (i ≤ 32) × (length text ≡ length text₀)
 
 abbrev μ-loop : tie.MeasureT-loop
-μ-loop text₀ at filters end₀ i₀ text end i = 32 - i
+μ-loop text₀ at filters choices end₀ i₀ text end i = 32 - i
 
 loop-holds : tie.Need-loop-holds Inv-loop μ-loop
 loop-holds c = (search needs, refl)
@@ -22,6 +22,12 @@ mul-filter c = search needs
 
 array-copy-out-filter : tie.Need-array-copy-out-filter Inv-loop μ-loop
 array-copy-out-filter c = search needs
+
+mul-print-place : tie.Need-mul-print-place Inv-loop μ-loop
+mul-print-place c = search needs
+
+array-read-print-place : tie.Need-array-read-print-place Inv-loop μ-loop
+array-read-print-place c = search needs
 
 print-place-requires : tie.Need-print-place-requires Inv-loop μ-loop
 print-place-requires c κs = search needs
@@ -50,6 +56,8 @@ print-places-spec =
     loop-holds
     mul-filter
     array-copy-out-filter
+    mul-print-place
+    array-read-print-place
     print-place-requires
     add-i
     loop-less

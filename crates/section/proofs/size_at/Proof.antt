@@ -1,8 +1,8 @@
 -- The two bytes are read where the definition reads them.
 -- Assumes nothing.
 use borrow.Author.Needs.{needs}
-use Rattle.lines.proofs.section_size.Statement.{statement}
-use Rattle.lines.proofs.section_size.Tie as tie
+use Rattle.section.proofs.size_at.Statement.{statement}
+use Rattle.section.proofs.size_at.Tie as tie
 
 byte-requires : tie.Need-byte-requires
 byte-requires c κs = search needs
@@ -19,6 +19,6 @@ add-result c = search needs
 returns : tie.Need-returns
 returns c = search needs
 
-pub section-size-spec : {M : Type 1} → statement M
-section-size-spec =
+pub size-at-spec : {M : Type 1} → statement M
+size-at-spec =
     tie.close (tie.spec byte-requires byte-requires-2 length-of-requires add-result returns)

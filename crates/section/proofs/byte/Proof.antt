@@ -8,8 +8,8 @@ use lib.ListN.{getD, drop-of-length-le}
 use denote.Ref.{now}
 use Rattle.ground.proofs.Part.{part-drop}
 use borrow.Author.Needs.{needs}
-use Rattle.lines.proofs.byte.Statement.{statement}
-use Rattle.lines.proofs.byte.Tie as tie
+use Rattle.section.proofs.byte.Statement.{statement}
+use Rattle.section.proofs.byte.Tie as tie
 
 sub-byte-at : tie.Need-sub-byte-at
 sub-byte-at c = search needs
