@@ -10,7 +10,7 @@ use Rattle.ground.proofs.Answer.{given-apart, given-same}
 use Rattle.gather.specs.Memory.{stateOf}
 use Rattle.gather.proofs.RuleKeeps.{rule-keeps}
 use Rattle.gather.proofs.AddsUp.{begun-most}
-use Rattle.state.specs.State.{areaOf, areaStart, freeArea, placesOn}
+use Rattle.state.specs.State.{areaOf, areaStart, freeArea}
 use Rattle.state.specs.declared.State.{State}
 use Rattle.packet_call.specs.Packet.{Said, AfterPacket, pidOf, packetFrom, outcome, report, unwanted, packetOf}
 use Rattle.driver.specs.Claims.{Limits}
@@ -19,17 +19,17 @@ use Rattle.driver.proofs.Cases.{Handles, packet-ind}
 nothing : Limits unwanted
 nothing = record { sections = omega arith; bytes = omega arith; givenUp = omega arith; begun = omega arith }
 
-module _ (s : State) (p store out : List ℕ) where
-  reported : Handles s p store out → Limits (report (outcome s (areaOf (pidOf p) (s .areas)) p store) (placesOn (areaOf (pidOf p) (s .areas)) (s .filters)))
+module _ (s : State) (p store out sets : List ℕ) where
+  reported : Handles s p store out sets → Limits (report (outcome s (areaOf (pidOf p) (s .areas)) p store))
   reported h =
       let i = areaOf (pidOf p) (s .areas) in
       let held = stateOf (getD (s .areas) i freeArea .marks) store (areaStart i) in
       let kept = rule-keeps held (packetFrom p) (h .agrees) in
       record { sections = kept .count (h .short); bytes = kept .bytes (h .short); givenUp = kept .two; begun = begun-most held (packetFrom p) (h .short) }
 
-  pub packet-limits : (r : Said) → packetOf s p store out .answer ≡ given r → Limits r
+  pub packet-limits : (r : Said) → packetOf s p store out sets .answer ≡ given r → Limits r
   packet-limits =
-      packet-ind s p store out (λ (a : AfterPacket). (r : Said) → a .answer ≡ given r → Limits r)
+      packet-ind s p store out sets (λ (a : AfterPacket). (r : Said) → a .answer ≡ given r → Limits r)
       (λ n _ _ r e. absurd (given-apart (sym e)))
       (λ _ r e. rw (← given-same e) nothing)
       (λ h r e. rw (← given-same e) (reported h))

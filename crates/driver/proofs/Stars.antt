@@ -20,8 +20,8 @@ use Rattle.packet_call.specs.Packet.{packetOf, isWrongSize}
 use Rattle.driver.specs.Stars.{Right, cases, eightTaken, lastByteHeld}
 
 -- the sizes are right
-sizes : (store out : List ℕ) → length store ≡ 32768 → 4278 ≤ length out → isWrongSize store out ≡ false
-sizes store out l o = rw (eq-eqb (length store) 32768 l, le-ltb (length out) 4278 o)
+sizes : (store out sets : List ℕ) → length store ≡ 32768 → 4278 ≤ length out → 61 ≤ length sets → isWrongSize store out sets ≡ false
+sizes store out sets l o m = rw (eq-eqb (length store) 32768 l, le-ltb (length out) 4278 o, le-ltb (length sets) 61 m)
 
 -- where all areas are taken an open finds none for a PID that has none
 none-free : (pid : ℕ) (areas : List Area) → all isUsed areas ≡ true → hasArea pid areas ≡ false → leb (length areas) (areaFor pid areas) ≡ true
@@ -34,17 +34,17 @@ own-found pid areas held = rw held (lt-leb (length areas) (areaOf pid areas) (lt
 
 eight-taken : Right eightTaken
 unfolding openOf
-eight-taken s pid fine used low more place = (
-  λ none. rw (fine, le-ltb 0x1FFE pid low, le-ltb 65535 (s .next) more, lt-leb (length (s .filters)) (freePlaceOf (s .filters)) place, none-free pid (s .areas) used none),
-  λ held. rw (fine, le-ltb 0x1FFE pid low, le-ltb 65535 (s .next) more, lt-leb (length (s .filters)) (freePlaceOf (s .filters)) place, own-found pid (s .areas) held),
+eight-taken s pid choice fine used low chosen more place = (
+  λ none. rw (fine, le-ltb 0x1FFE pid low, chosen, le-ltb 65535 (s .next) more, lt-leb (length (s .filters)) (freePlaceOf (s .filters)) place, none-free pid (s .areas) used none),
+  λ held. rw (fine, le-ltb 0x1FFE pid low, chosen, le-ltb 65535 (s .next) more, lt-leb (length (s .filters)) (freePlaceOf (s .filters)) place, own-found pid (s .areas) held),
 )
 
 last-byte : Right lastByteHeld
 unfolding sound openOf packetOf
-last-byte bytes store out e l o =
+last-byte bytes store out sets e l o m =
     let held = gathering.stars .1 .1 .0 0 bytes e in
-    rw (sizes store out l o, length-append bytes (0x80 ∷ []), e, held .1, put-nil out 0)
+    rw (sizes store out sets l o m, length-append bytes (0x80 ∷ []), e, held .1, put-nil out 0, put-nil sets 0)
 
 pub stars : Every Right cases
 unfolding sound openOf packetOf
-stars = (refl, (refl, (eight-taken, (λ store out l o. rw (sizes store out l o), (λ store out l o. rw (sizes store out l o), (last-byte, tt))))))
+stars = (refl, (refl, (eight-taken, (λ store out sets l o m. rw (sizes store out sets l o m), (λ store out sets l o m. rw (sizes store out sets l o m), (last-byte, tt))))))

@@ -21,8 +21,11 @@ use Rattle.gather.specs.Memory.{soundMarks, stateOf}
 use Rattle.gather.proofs.RuleKeeps.{rule-keeps}
 use Rattle.gather.proofs.Stored.{house, stays-sound}
 use Rattle.state.specs.State.{fresh, isUsed, isOpen, isFree, hasPid, areaOf, areaStart, freePlaceOf, placeOf, freeArea, freeFilter}
+use Rattle.state.specs.Choice.{soundChoice, codeOf}
 use Rattle.state.specs.declared.Area.{Area}
+use Rattle.state.specs.declared.Choice.{Choice}
 use Rattle.state.specs.declared.State.{State}
+use Rattle.state.proofs.Chosen.{choice-back}
 use Rattle.state.proofs.Found.{found-area, found-place}
 use Rattle.sound.specs.Sound.{sound, soundArea, soundFilter, isZeroArea, samePid}
 use Rattle.sound.proofs.Pass.{counted-all}
@@ -41,13 +44,13 @@ unfolding sound
 fresh-sound = refl
 
 -- ---- open and close
-pub opens-clauses : (s : State) (pid : ℕ) → Opens s pid → Clauses (opened s pid)
-opens-clauses s pid o =
-    opening.opened-clauses s pid (areaFor pid (s .areas)) (freePlaceOf (s .filters)) (sound-tells s (o .fine)) (o .low) (o .more) (opening.for-pid pid (s .areas)) (o .area) (o .place)
+pub opens-clauses : (s : State) (pid : ℕ) (choice : Choice) → Opens s pid choice → Clauses (opened s pid choice)
+opens-clauses s pid choice o =
+    opening.opened-clauses s pid (codeOf choice) (areaFor pid (s .areas)) (freePlaceOf (s .filters)) (sound-tells s (o .fine)) (o .low) (ap soundChoice (choice-back choice) ∙ o .chosen) (o .more) (opening.for-pid pid (s .areas)) (o .area) (o .place)
     (find-passes isFree (s .filters) freeFilter (o .place))
 
-pub open-sound : (s : State) (pid : ℕ) → sound s ≡ true → sound (openOf s pid .state) ≡ true
-open-sound s pid e = open-ind s pid (λ o. sound (o .state) ≡ true) (λ n a b. e) (λ o. sound-says (opened s pid) (opens-clauses s pid o))
+pub open-sound : (s : State) (pid : ℕ) (choice : Choice) → sound s ≡ true → sound (openOf s pid choice .state) ≡ true
+open-sound s pid choice e = open-ind s pid choice (λ o. sound (o .state) ≡ true) (λ n a b. e) (λ o. sound-says (opened s pid choice) (opens-clauses s pid choice o))
 
 pub closes-clauses : (s : State) (number : ℕ) → Closes s number → Clauses (withoutFilter s (placeOf number (s .filters)))
 closes-clauses s number c = closed-clauses s (placeOf number (s .filters)) (sound-tells s (c .fine)) (c .place) (found-place number (s .filters) (c .place) .0)
@@ -57,7 +60,7 @@ close-sound s number e =
     close-ind s number (λ o. sound (o .state) ≡ true) (λ n a b. e) (λ c. sound-says (withoutFilter s (placeOf number (s .filters))) (closes-clauses s number c))
 
 -- ---- packet
-module _ (s : State) (p store out : List ℕ) (eight : length (s .areas) ≡ 8) (h : Handles s p store out) where
+module _ (s : State) (p store out sets : List ℕ) (eight : length (s .areas) ≡ 8) (h : Handles s p store out sets) where
   abbrev own : ℕ
   own = areaOf (pidOf p) (s .areas)
 
@@ -95,7 +98,7 @@ module _ (s : State) (p store out : List ℕ) (eight : length (s .areas) ≡ 8) 
       (stays-sound (area .marks) (contents p .counter) (contents p .unitStart) (payloadOf p) store (areaStart own) out
       (house (area .marks) (payloadOf p) store own out (own-sound .1) (h .whole) (rw eight at (h .area)) (h .short) (h .room)) (own-sound .1) (h .agrees) (h .counter))
 
-  pub handles-clauses : Clauses (putBack s own result store out .state)
+  pub handles-clauses : Clauses (putBack s own result store out sets .state)
   handles-clauses =
       record {
         from = clauses .from;
@@ -113,34 +116,36 @@ module _ (s : State) (p store out : List ℕ) (eight : length (s .areas) ≡ 8) 
             ap (λ (u : Bool). cond (isOpen f) (ltb (f .number) (s .next) && u) (eqb (f .area) 0)) (same-used (f .area))
             ∙ all-at (soundFilter (s .next) (s .areas)) (s .filters) freeFilter (clauses .filters) j b);
         numbers = clauses .numbers;
+        choices = clauses .choices;
         users =
             counted-all (s .filters) (set (s .areas) own (withMarks area result))
             (λ j b. unseen (λ (a : Area). a .users) (s .areas) own (withMarks area result) freeArea (h .area) refl j ∙ users-are s clauses j (rw length-set at b));
       }
 
-pub packet-sound : (s : State) (p store out : List ℕ) → length (s .areas) ≡ 8 → sound s ≡ true → sound (packetOf s p store out .state) ≡ true
-packet-sound s p store out eight e =
-    packet-ind s p store out (λ o. sound (o .state) ≡ true) (λ n a b. e) (λ l. e)
-    (λ h. sound-says (putBack s (areaOf (pidOf p) (s .areas)) (outcome s (areaOf (pidOf p) (s .areas)) p store) store out .state) (handles-clauses s p store out eight h))
+pub packet-sound : (s : State) (p store out sets : List ℕ) → length (s .areas) ≡ 8 → sound s ≡ true → sound (packetOf s p store out sets .state) ≡ true
+packet-sound s p store out sets eight e =
+    packet-ind s p store out sets (λ o. sound (o .state) ≡ true) (λ n a b. e) (λ l. e)
+    (λ h. sound-says (putBack s (areaOf (pidOf p) (s .areas)) (outcome s (areaOf (pidOf p) (s .areas)) p store) store out sets .state) (handles-clauses s p store out sets eight h))
 
 -- "No packet of another PID .. changes it": a packet call changes at most its own PID's area, in the state and in the store
-pub packet-own-area : (s : State) (p store out : List ℕ) → length (s .areas) ≡ 8 → OnlyArea (areaOf (pidOf p) (s .areas)) s store (packetOf s p store out)
-packet-own-area s p store out eight = packet-ind s p store out (OnlyArea own s store) (λ n a b. same (refused n)) (λ l. same (given unwanted)) on
+pub packet-own-area : (s : State) (p store out sets : List ℕ) → length (s .areas) ≡ 8 → OnlyArea (areaOf (pidOf p) (s .areas)) s store (packetOf s p store out sets)
+packet-own-area s p store out sets eight = packet-ind s p store out sets (OnlyArea own s store) (λ n a b. same (refused n)) (λ l. same (given unwanted)) on
   where
     own : ℕ
     own = areaOf (pidOf p) (s .areas)
 
-    same : (a : Answer Said) → OnlyArea (areaOf (pidOf p) (s .areas)) s store (asGiven s store out a)
-    same a = record { filters = refl; next = refl; areas = λ j n. refl; size = refl; elsewhere = λ from n b. refl }
+    same : (a : Answer Said) → OnlyArea (areaOf (pidOf p) (s .areas)) s store (asGiven s store out sets a)
+    same a = record { filters = refl; choices = refl; next = refl; areas = λ j n. refl; size = refl; elsewhere = λ from n b. refl }
 
-    on : Handles s p store out → OnlyArea (areaOf (pidOf p) (s .areas)) s store (putBack s (areaOf (pidOf p) (s .areas)) (outcome s (areaOf (pidOf p) (s .areas)) p store) store out)
+    on : Handles s p store out sets → OnlyArea (areaOf (pidOf p) (s .areas)) s store (putBack s (areaOf (pidOf p) (s .areas)) (outcome s (areaOf (pidOf p) (s .areas)) p store) store out sets)
     on h =
         let i = areaOf (pidOf p) (s .areas) in
         let o = outcome s i p store in
-        let fits = held-fits s p store out eight h in
-        let inside = held-inside s p store out eight h in
+        let fits = held-fits s p store out sets eight h in
+        let inside = held-inside s p store out sets eight h in
         record {
           filters = refl;
+          choices = refl;
           next = refl;
           areas = λ j n. getD-set-other (s .areas) i j (withMarks (getD (s .areas) i freeArea) o) freeArea n;
           size = length-put store (areaStart i) (o .next .held) inside;

@@ -11,6 +11,7 @@ use Rattle.packet.specs.Payload.{payloadOf}
 use Rattle.gather.specs.Sum.{AddsUp}
 use Rattle.gather.specs.Memory.{stretch}
 use Rattle.state.specs.State.{areaStart, areaOf, freeArea, fresh}
+use Rattle.state.specs.declared.Choice.{Choice}
 use Rattle.state.specs.declared.State.{State}
 use Rattle.sound.specs.Sound.{sound}
 use Rattle.open_call.specs.Open.{openOf}
@@ -20,6 +21,7 @@ use Rattle.packet_call.specs.Packet.{Said, AfterPacket, pidOf, heldIn, packetOf
 -- nothing but area i of the state and of the store has changed
 pub record OnlyArea (i : ℕ) (s : State) (store : List ℕ) (o : AfterPacket) : Type 0 where
   pub filters : o .state .filters ≡ s .filters
+  pub choices : o .state .choices ≡ s .choices
   pub next : o .state .next ≡ s .next
   pub areas : (j : ℕ) → (j ≡ i → ⊥) → getD (o .state .areas) j freeArea ≡ getD (s .areas) j freeArea
   pub size : length (o .store) ≡ length store
@@ -43,15 +45,15 @@ pub record Accounted (p : List ℕ) (r : Said) (before after : ℕ) : Type 0 whe
   pub none : (r .repeat ≡ true) ⊎ (payloadOf p ≡ []) → (r .begun ≡ 0) × (r .sections ≡ 0) × (r .givenUp ≡ 0) × (after ≡ before)
 
 pub record Claims : Type 0 where
-  pub limits : (s : State) (p store out : List ℕ) (r : Said) → packetOf s p store out .answer ≡ given r → Limits r
-  -- sections begun are accounted for, whatever the state (it has 8 areas), the store and the output
-  pub accounted : (s : State) (p store out : List ℕ) → length (s .areas) ≡ 8 → (r : Said) → packetOf s p store out .answer ≡ given r
+  pub limits : (s : State) (p store out sets : List ℕ) (r : Said) → packetOf s p store out sets .answer ≡ given r → Limits r
+  -- sections begun are accounted for, whatever the state (it has 8 areas), the store, the output and the list
+  pub accounted : (s : State) (p store out sets : List ℕ) → length (s .areas) ≡ 8 → (r : Said) → packetOf s p store out sets .answer ≡ given r
       → let i = areaOf (pidOf p) (s .areas) in
-      Accounted p r (heldIn i s) (heldIn i (packetOf s p store out .state))
+      Accounted p r (heldIn i s) (heldIn i (packetOf s p store out sets .state))
   -- a fresh state is sound, and a call leaves a sound state sound
   pub soundFresh : sound fresh ≡ true
-  pub soundOpen : (s : State) (pid : ℕ) → sound s ≡ true → sound (openOf s pid .state) ≡ true
+  pub soundOpen : (s : State) (pid : ℕ) (choice : Choice) → sound s ≡ true → sound (openOf s pid choice .state) ≡ true
   pub soundClose : (s : State) (number : ℕ) → sound s ≡ true → sound (closeOf s number .state) ≡ true
-  pub soundPacket : (s : State) (p store out : List ℕ) → length (s .areas) ≡ 8 → sound s ≡ true → sound (packetOf s p store out .state) ≡ true
+  pub soundPacket : (s : State) (p store out sets : List ℕ) → length (s .areas) ≡ 8 → sound s ≡ true → sound (packetOf s p store out sets .state) ≡ true
   -- a packet call changes at most its own PID's area, in the state and in the store
-  pub onlyArea : (s : State) (p store out : List ℕ) → length (s .areas) ≡ 8 → OnlyArea (areaOf (pidOf p) (s .areas)) s store (packetOf s p store out)
+  pub onlyArea : (s : State) (p store out sets : List ℕ) → length (s .areas) ≡ 8 → OnlyArea (areaOf (pidOf p) (s .areas)) s store (packetOf s p store out sets)

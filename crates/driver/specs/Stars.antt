@@ -4,12 +4,15 @@ use mathlib.Core.Bool.{true, false}
 use mathlib.Core.List.{List, [], _∷_, _++_}
 use Prim.Native.Nat.{ℕ, _≤_, _<_}
 use lib.ListN.{length, set, replicate}
-use Rattle.ground.specs.House.{storeBytes, lastNumber, leastOutput, lastFilterPid}
+use Rattle.ground.specs.House.{storeBytes, lastNumber, leastOutput, leastList, lastFilterPid}
 use Rattle.ground.specs.Answer.{Answer, refused, given}
 use Rattle.ground.specs.Walk.{all}
 use Rattle.ground.specs.Write.{put}
 use Rattle.gather.specs.Memory.{marksAs}
 use Rattle.state.specs.State.{fresh, isUsed, freePlaceOf}
+use Rattle.state.specs.Choice.{soundChoice}
+use Rattle.state.specs.declared.Choice.{Choice}
+use Rattle.state.specs.declared.Choice.the-variants.{All}
 use Rattle.state.specs.declared.State.{State}
 use Rattle.sound.specs.Sound.{sound}
 use Rattle.open_call.specs.Open.{Place, hasArea, openOf}
@@ -25,37 +28,40 @@ pub data Case : Type 0 where
   -- with PID 0 open a packet with unit start, pointer 182 and last byte 0x80 leaves that byte held, whichever the bytes between them are
   lastByteHeld : Case
 
--- the state after opens on these PIDs
+-- the state after opens on these PIDs, each of all tables
 abbrev pub openAll : State → List ℕ → State
 openAll s [] = s
-openAll s (pid ∷ pids) = openAll (openOf s pid .state) pids
+openAll s (pid ∷ pids) = openAll (openOf s pid All .state) pids
 
 -- one filter, on PID 0
 abbrev pub zeroOpen : State
 zeroOpen = openAll fresh (0 ∷ [])
 
--- what a case claims; a packet's for every store and output of the right size
+-- what a case claims; a packet's for every store, output and list of the right size
 abbrev pub Right : Case → Type 0
-Right (openAfter pids pid answer) = openOf (openAll fresh pids) pid .answer ≡ answer
+Right (openAfter pids pid answer) = openOf (openAll fresh pids) pid All .answer ≡ answer
 Right eightTaken =
-    (s : State) (pid : ℕ) → sound s ≡ true → all isUsed (s .areas) ≡ true → pid ≤ lastFilterPid → s .next ≤ lastNumber → freePlaceOf (s .filters) < length (s .filters)
-    → (hasArea pid (s .areas) ≡ false → openOf s pid .answer ≡ refused 15)
-    × (hasArea pid (s .areas) ≡ true → openOf s pid .answer ≡ given (record { number = s .next; place = freePlaceOf (s .filters) }))
+    (s : State) (pid : ℕ) (choice : Choice) → sound s ≡ true → all isUsed (s .areas) ≡ true → pid ≤ lastFilterPid → soundChoice choice ≡ true → s .next ≤ lastNumber → freePlaceOf (s .filters) < length (s .filters)
+    → (hasArea pid (s .areas) ≡ false → openOf s pid choice .answer ≡ refused 15)
+    × (hasArea pid (s .areas) ≡ true → openOf s pid choice .answer ≡ given (record { number = s .next; place = freePlaceOf (s .filters) }))
 Right (packetRefused bytes n) =
-    (store out : List ℕ) → length store ≡ storeBytes → leastOutput ≤ length out → packetOf zeroOpen bytes store out ≡ asGiven zeroOpen store out (refused n)
+    (store out sets : List ℕ) → length store ≡ storeBytes → leastOutput ≤ length out → leastList ≤ length sets
+    → packetOf zeroOpen bytes store out sets ≡ asGiven zeroOpen store out sets (refused n)
 Right lastByteHeld =
-    (bytes store out : List ℕ) → length bytes ≡ 182 → length store ≡ storeBytes → leastOutput ≤ length out
-    → packetOf zeroOpen (0x47 ∷ 0x40 ∷ 0x00 ∷ 0x10 ∷ 182 ∷ (bytes ++ 0x80 ∷ [])) store out
+    (bytes store out sets : List ℕ) → length bytes ≡ 182 → length store ≡ storeBytes → leastOutput ≤ length out → leastList ≤ length sets
+    → packetOf zeroOpen (0x47 ∷ 0x40 ∷ 0x00 ∷ 0x10 ∷ 182 ∷ (bytes ++ 0x80 ∷ [])) store out sets
     ≡ record {
-      answer = given (record { wanted = true; sections = 0; bytes = 0; places = 1; jump = false; repeat = false; givenUp = 0; begun = 1 });
+      answer = given (record { wanted = true; sections = 0; bytes = 0; jump = false; repeat = false; givenUp = 0; begun = 1 });
       state =
           record {
             areas = set (zeroOpen .areas) 0 (record { pid = record { 0 = 0 }; users = 1; marks = marksAs 1 1 0 0 });
             filters = zeroOpen .filters;
+            choices = zeroOpen .choices;
             next = zeroOpen .next;
           };
       store = put store 0 (0x80 ∷ []);
       out = out;
+      sets = sets;
     }
 
 -- eight PIDs

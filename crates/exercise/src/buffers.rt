@@ -155,8 +155,8 @@ pub(crate) fn changed_sets(text: &mut [u8], at: usize, list: &List, before: &Lis
     outcome::sets(text, end, &sets[first..behind])
 }
 
-// The set at a place of the list becomes this, where there is such a place.
-pub(crate) fn set_place(list: &mut List, line: Line) {
+// Sets a place of the list, where there is such a place.
+pub(crate) fn put_set(list: &mut List, line: Line) {
     let n = line.numbers;
     let i = n[0] as usize;
     if i < 128 {

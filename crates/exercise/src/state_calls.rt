@@ -55,7 +55,7 @@ pub(crate) fn answer(
         return After { state, at: end };
     }
     if line.is(b"list", 2, false) & line.within(127, 0xFFFF_FFFF) {
-        buffers::set_place(list, line);
+        buffers::put_set(list, line);
         let end = text::word(text, at, b"list");
         return After { state, at: end };
     }
@@ -130,7 +130,7 @@ fn open(line: Line, state: State, text: &mut [u8], at: usize) -> After {
     After { state, at: end }
 }
 
-// What an open asks for: a table_id where it is a byte, and all where it is not.
+// The choice of an open: a table_id where the number is a byte, and all where it is not.
 fn choice(table: u64) -> Choice {
     if table < 256 {
         return Choice::One(eight_bits(table));
