@@ -8,18 +8,16 @@ use native.Mathlib.Omega.{arith}
 use borrow.Author.Tests.{ltb-true, eqb-true}
 use lib.Dec.{eqb}
 use lib.ListN.{length}
-use Rattle.ground.specs.Write.{put}
 use Rattle.ground.proofs.Part.{length-part}
 use Rattle.gather.specs.Rule as gathering
-use Rattle.gather.specs.Kind.{join}
 use Rattle.gather.proofs.AddsUp.{rule-adds}
 use Rattle.gather.proofs.RuleOnMemory.{sound-says}
-use Rattle.state.specs.State.{areaOf, areaStart, freePlaceOf, placesOn}
+use Rattle.state.specs.State.{areaOf, areaStart, freePlaceOf}
 use Rattle.state.proofs.Found.{found-area}
 use Rattle.sound.proofs.Clauses.{area-marks}
 use Rattle.packet_call.specs.Packet.{pidOf, heldIn, packetFrom, report}
 use Rattle.driver.proofs.Cases.{open-ind, close-ind, packet-ind}
-use Rattle.runs.specs.Run.{Call, openCall, closeCall, packetCall, World, openEvent, closeEvent, packetEvent, event, ours}
+use Rattle.runs.specs.Run.{Buffers, Call, openCall, closeCall, packetCall, World, openEvent, closeEvent, packetEvent, event, ours}
 use Rattle.runs.specs.History.{OpenedFilter, AcceptedCall, opened, packet, acceptedBy, opens, closes, packets, reports, remembered}
 use Rattle.runs.specs.Answers.{outcomeAfter}
 use Rattle.runs.specs.Demand.{worldAfter, history}
@@ -44,12 +42,12 @@ after-open pid f h a = go (eqb (f .pid) pid && eqb (opens pid h) (closes pid h))
     go false = a
 
 -- one packet more, of which the rule's counts are told
-after-packet : (pid : ℕ) (p lent : List ℕ) (places : ℕ) (out : List ℕ) (h : List AcceptedCall) → AddUpOn pid h
-    → AddUpOn pid (packet p lent (report (outcomeAfter h p) places) out ∷ h)
-after-packet pid p lent places out h a = go (eqb (pidOf p) pid) refl
+after-packet : (pid : ℕ) (p : List ℕ) (lent out : Buffers) (h : List AcceptedCall) → AddUpOn pid h
+    → AddUpOn pid (packet p lent (report (outcomeAfter h p)) out ∷ h)
+after-packet pid p lent out h a = go (eqb (pidOf p) pid) refl
   where
     go : (b : Bool) → eqb (pidOf p) pid ≡ b
-        → TotalsAddUp (cond b (report (outcomeAfter h p) places ∷ reports pid h) (reports pid h)) (length (remembered (cond b (packetFrom p ∷ packets pid h) (packets pid h)) .held))
+        → TotalsAddUp (cond b (report (outcomeAfter h p) ∷ reports pid h) (reports pid h)) (length (remembered (cond b (packetFrom p ∷ packets pid h) (packets pid h)) .held))
     go true e =
         let own = eqb-true (pidOf p) pid e in
         let o = rule-adds (remembered (packets pid h)) (packetFrom p) (remembered-fine (packets pid h)) in
@@ -58,16 +56,14 @@ after-packet pid p lent places out h a = go (eqb (pidOf p) pid) refl
 
 module _ (w : World) (h : List AcceptedCall) (l : Ledger w h) (pid : ℕ) (a : AddUpOn pid h) where
   step : (c : Call) → AddUpOn pid (acceptedBy (event ours w c) ++ h)
-  step (openCall q) =
-      open-ind (w .state) q (λ o. AddUpOn pid (acceptedBy (openEvent q (o .answer)) ++ h)) (λ n x y. a)
-      (λ o. after-open pid (record { number = w .state .next; pid = q; place = freePlaceOf (w .state .filters) }) h a)
+  step (openCall q choice) =
+      open-ind (w .state) q choice (λ o. AddUpOn pid (acceptedBy (openEvent q choice (o .answer)) ++ h)) (λ n x y. a)
+      (λ o. after-open pid (record { number = w .state .next; pid = q; choice = choice; place = freePlaceOf (w .state .filters) }) h a)
   step (closeCall number) =
       close-ind (w .state) number (λ o. AddUpOn pid (acceptedBy (closeEvent number (o .answer)) ++ h)) (λ n x y. a) (λ c. a)
   step (packetCall p lent) =
-      packet-ind (w .state) p (w .store) lent (λ o. AddUpOn pid (acceptedBy (packetEvent p lent (o .answer) (o .out)) ++ h)) (λ n x y. a) (λ b. a)
-      (λ k.
-      rw (outcome-is w h l p lent (k .area))
-      (after-packet pid p lent (placesOn (areaOf (pidOf p) (w .state .areas)) (w .state .filters)) (put lent 0 (join (outcomeAfter h p .sections))) h a))
+      packet-ind (w .state) p (w .store) (lent .out) (lent .sets) (λ o. AddUpOn pid (acceptedBy (packetEvent p lent (o .answer) (record { out = o .out; sets = o .sets })) ++ h)) (λ n x y. a) (λ b. a)
+      (λ k. rw (outcome-is w h l p lent (k .area)) (after-packet pid p lent lent h a))
 
 add-up : (store : List ℕ) → length store ≡ 32768 → (pid : ℕ) (calls : List Call) → AddUpOn pid (history ours store calls)
 add-up store e pid [] = none-said

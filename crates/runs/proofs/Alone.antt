@@ -15,11 +15,13 @@ use Rattle.ground.specs.Walk.{keep}
 use Rattle.ground.proofs.Judged.{judge-seen}
 use Rattle.ground.proofs.Walk.{keep-append, keep-kept}
 use Rattle.gather.specs.Rule.{Packet}
+use Rattle.state.specs.Choice.{through}
+use Rattle.state.specs.declared.Choice.{Choice}
 use Rattle.open_call.specs.Open.{Place}
 use Rattle.packet_call.specs.Packet.{Said, unwanted, pidOf, packetFrom, report}
-use Rattle.runs.specs.Run.{Call, openCall, closeCall, packetCall, World, Event, openEvent, closeEvent, packetEvent, ours}
+use Rattle.runs.specs.Run.{Buffers, Call, openCall, closeCall, packetCall, World, Event, openEvent, closeEvent, packetEvent, ours}
 use Rattle.runs.specs.History.{OpenedFilter, AcceptedCall, opened, closed, packet, acceptedBy, numbersGiven, opens, closes, openingOf, isClosed, moreOpens, packets, since, upToClose, handed, completed}
-use Rattle.runs.specs.Answers.{lowestFree, openRows, isGiven, earlyRows, lateRows, outcomeAfter, placesAfter, written, packetAnswer, answerTo}
+use Rattle.runs.specs.Answers.{lowestFree, openRows, isGiven, earlyRows, lateRows, outcomeAfter, filled, packetAnswer, answerTo}
 use Rattle.runs.specs.Demand.{worldAfter, history, concerns, isOwn}
 use Rattle.runs.proofs.Ledger.{filterAt, IsOpen, Ledger, all-before, stood, busy, still-taken}
 use Rattle.runs.proofs.Steps.{ledger}
@@ -43,12 +45,12 @@ abbrev status : OpenedFilter → List AcceptedCall → Status
 status f h = (isClosed (f .number) h, owed f h)
 
 -- one packet more, where it passes the tests that look at the call alone
-abbrev offer : List ℕ → List ℕ → Owed → Owed
+abbrev offer : List ℕ → Buffers → Owed → Owed
 offer p lent x = judge (λ n. x) (earlyRows p lent) (judge (λ n. x) (lateRows p) (suc (x .0), packetFrom p ∷ x .1))
 
 -- what a call makes of it
 abbrev goes : OpenedFilter → Call → Status → Status
-goes f (openCall q) x = x
+goes f (openCall q choice) x = x
 goes f (closeCall number) x = (eqb number (f .number) || x .0, x .1)
 goes f (packetCall p lent) x = cond (eqb (pidOf p) (f .pid)) (x .0, cond (x .0) (x .1) (offer p lent (x .1))) x
 
@@ -58,7 +60,7 @@ goesBy f (c ∷ cs) x = goes f c (goesBy f cs x)
 
 -- a call that is not its own makes nothing of it
 not-own : (f : OpenedFilter) (c : Call) (x : Status) → isOwn f c ≡ false → goes f c x ≡ x
-not-own f (openCall q) x e = refl
+not-own f (openCall q choice) x e = refl
 not-own f (closeCall number) x e = rw e
 not-own f (packetCall p lent) x e = rw e
 
@@ -81,12 +83,12 @@ judge-same (row ∷ rows) x y e = go (row .applies) (judge-same rows x y e)
     go false q = q
 
 -- a packet's answer, seen through a function
-packet-seen {ℓ} : {A : Type ℓ} (see : Event → A) (h : List AcceptedCall) (p lent : List ℕ)
+packet-seen {ℓ} : {A : Type ℓ} (see : Event → A) (h : List AcceptedCall) (p : List ℕ) (lent : Buffers)
     → see (packetAnswer h p lent)
     ≡ judge (λ n. see (packetEvent p lent (refused n) lent)) (earlyRows p lent)
     (cond (moreOpens (pidOf p) h)
     (judge (λ n. see (packetEvent p lent (refused n) lent)) (lateRows p)
-    (see (packetEvent p lent (given (report (outcomeAfter h p) (placesAfter h (pidOf p)))) (written (outcomeAfter h p) lent))))
+    (see (packetEvent p lent (given (report (outcomeAfter h p))) (filled h p lent))))
     (see (packetEvent p lent (given unwanted) lent)))
 packet-seen see h p lent =
     judge-seen see refuse (earlyRows p lent) _ ∙ ap (judge (λ n. see (refuse n)) (earlyRows p lent)) (either (moreOpens (pidOf p) h) ∙ ap (λ x. cond (moreOpens (pidOf p) h) x (see none)) (judge-seen see refuse (lateRows p) takes))
@@ -95,7 +97,7 @@ packet-seen see h p lent =
     refuse n = packetEvent p lent (refused n) lent
 
     takes : Event
-    takes = packetEvent p lent (given (report (outcomeAfter h p) (placesAfter h (pidOf p)))) (written (outcomeAfter h p) lent)
+    takes = packetEvent p lent (given (report (outcomeAfter h p))) (filled h p lent)
 
     none : Event
     none = packetEvent p lent (given unwanted) lent
@@ -105,8 +107,8 @@ packet-seen see h p lent =
     either false = refl
 
 -- where an accepted packet changes nothing of what is seen, no packet does
-packet-unseen {ℓ} : {A : Type ℓ} (see : List AcceptedCall → A) (h : List AcceptedCall) (p lent : List ℕ)
-    → ((r : Said) (out : List ℕ) → see (packet p lent r out ∷ h) ≡ see h) → see (acceptedBy (packetAnswer h p lent) ++ h) ≡ see h
+packet-unseen {ℓ} : {A : Type ℓ} (see : List AcceptedCall → A) (h : List AcceptedCall) (p : List ℕ) (lent : Buffers)
+    → ((r : Said) (out : Buffers) → see (packet p lent r out ∷ h) ≡ see h) → see (acceptedBy (packetAnswer h p lent) ++ h) ≡ see h
 packet-unseen see h p lent same =
     packet-seen (λ (e : Event). see (acceptedBy e ++ h)) h p lent
     ∙ judge-same (earlyRows p lent) (see h) _ (go (moreOpens (pidOf p) h) (judge-same (lateRows p) (see h) _ (same _ _)))
@@ -121,14 +123,14 @@ module _ (w : World) (h : List AcceptedCall) (l : Ledger w h) (f : OpenedFilter)
   not-next e = let b = l .given (f .number) f came .1 in let n = l .numbers in omega arith
 
   -- a new filter
-  abbrev new : ℕ → OpenedFilter
-  new pid = record { number = numbersGiven h + 1; pid = pid; place = lowestFree h }
+  abbrev new : ℕ → Choice → OpenedFilter
+  new pid choice = record { number = numbersGiven h + 1; pid = pid; choice = choice; place = lowestFree h }
 
   -- ---- its open stays
   pub step-opened : (c : Call) → openingOf (f .number) (acceptedBy (answerTo h c) ++ h) ≡ there f
-  step-opened (openCall pid) =
-      judge-seen (λ (a : Answer Place). openingOf (f .number) (acceptedBy (openEvent pid a) ++ h)) refused (openRows h pid) (given (record { number = numbersGiven h + 1; place = lowestFree h }))
-      ∙ judge-same (openRows h pid) (openingOf (f .number) h) _ (ap (λ (b : Bool). cond b (there (new pid)) (openingOf (f .number) h)) (ne-eqb (numbersGiven h + 1) (f .number) not-next))
+  step-opened (openCall pid choice) =
+      judge-seen (λ (a : Answer Place). openingOf (f .number) (acceptedBy (openEvent pid choice a) ++ h)) refused (openRows h pid choice) (given (record { number = numbersGiven h + 1; place = lowestFree h }))
+      ∙ judge-same (openRows h pid choice) (openingOf (f .number) h) _ (ap (λ (b : Bool). cond b (there (new pid choice)) (openingOf (f .number) h)) (ne-eqb (numbersGiven h + 1) (f .number) not-next))
       ∙ came
   step-opened (closeCall number) = go (isGiven h number)
     where
@@ -148,15 +150,15 @@ module _ (w : World) (h : List AcceptedCall) (l : Ledger w h) (f : OpenedFilter)
   is-open : isClosed (f .number) h ≡ false → IsOpen f h
   is-open k = record { opened = came; kept = k }
 
-  open-status : (pid : ℕ) → status f (opened (new pid) ∷ h) ≡ status f h
-  open-status pid = go (isClosed n h) refl
+  open-status : (pid : ℕ) (choice : Choice) → status f (opened (new pid choice) ∷ h) ≡ status f h
+  open-status pid choice = go (isClosed n h) refl
     where
-      go : (b : Bool) → isClosed n h ≡ b → status f (opened (new pid) ∷ h) ≡ status f h
-      go true k = ap (λ (b : Bool). (isClosed n h, owedOf f (cond b (upToClose n h) (opened (new pid) ∷ h)))) k
+      go : (b : Bool) → isClosed n h ≡ b → status f (opened (new pid choice) ∷ h) ≡ status f h
+      go true k = ap (λ (b : Bool). (isClosed n h, owedOf f (cond b (upToClose n h) (opened (new pid choice) ∷ h)))) k
       go false k =
-          ap (λ (b : Bool). (isClosed n h, owedOf f (cond b (upToClose n h) (opened (new pid) ∷ h)))) k
+          ap (λ (b : Bool). (isClosed n h, owedOf f (cond b (upToClose n h) (opened (new pid choice) ∷ h)))) k
           ∙ ap₂ (λ (m : ℕ) (ps : List Packet). (isClosed n h, (m, ps))) (ap (λ (b : Bool). cond b 0 (since f h)) (ne-eqb (numbersGiven h + 1) n not-next))
-          (still-taken w h l f (new pid) (is-open k))
+          (still-taken w h l f (new pid choice) (is-open k))
           ∙ ap (λ (o : Owed). (isClosed n h, o)) (up-to-now k)
 
   -- one close more, of its number or another
@@ -189,7 +191,7 @@ module _ (w : World) (h : List AcceptedCall) (l : Ledger w h) (f : OpenedFilter)
   abbrev one-more : Bool → List ℕ → Owed → Owed
   one-more b p o = (cond b (suc (o .0)) (o .0), cond b (packetFrom p ∷ o .1) (o .1))
 
-  packet-status : (p lent : List ℕ) → status f (acceptedBy (packetAnswer h p lent) ++ h) ≡ goes f (packetCall p lent) (status f h)
+  packet-status : (p : List ℕ) (lent : Buffers) → status f (acceptedBy (packetAnswer h p lent) ++ h) ≡ goes f (packetCall p lent) (status f h)
   packet-status p lent = go (eqb (pidOf p) (f .pid)) refl (isClosed n h) refl
     where
       -- after its close, and of another PID, nothing changes
@@ -213,10 +215,10 @@ module _ (w : World) (h : List AcceptedCall) (l : Ledger w h) (f : OpenedFilter)
           ∙ sym (judge-seen (λ (o : Owed). (isClosed n h, o)) (λ m. owed f h) (earlyRows p lent) _)
         where
           r : Said
-          r = report (outcomeAfter h p) (placesAfter h (pidOf p))
+          r = report (outcomeAfter h p)
 
-          out : List ℕ
-          out = written (outcomeAfter h p) lent
+          out : Buffers
+          out = filled h p lent
 
           has : moreOpens (pidOf p) h ≡ true
           has =
@@ -239,15 +241,15 @@ module _ (w : World) (h : List AcceptedCall) (l : Ledger w h) (f : OpenedFilter)
       go false e false k = other-one e k
 
   pub step-status : (c : Call) → status f (acceptedBy (answerTo h c) ++ h) ≡ goes f c (status f h)
-  step-status (openCall pid) =
-      judge-seen (λ (a : Answer Place). status f (acceptedBy (openEvent pid a) ++ h)) refused (openRows h pid) (given (record { number = numbersGiven h + 1; place = lowestFree h }))
-      ∙ judge-same (openRows h pid) (status f h) _ (open-status pid)
+  step-status (openCall pid choice) =
+      judge-seen (λ (a : Answer Place). status f (acceptedBy (openEvent pid choice a) ++ h)) refused (openRows h pid choice) (given (record { number = numbersGiven h + 1; place = lowestFree h }))
+      ∙ judge-same (openRows h pid choice) (status f h) _ (open-status pid choice)
   step-status (closeCall number) = close-status number
   step-status (packetCall p lent) = packet-status p lent
 
 -- ---- over a run
 own-concerns : (f : OpenedFilter) (c : Call) → isOwn f c ≡ true → concerns (f .pid) c ≡ true
-own-concerns f (openCall q) e = refl
+own-concerns f (openCall q choice) e = refl
 own-concerns f (closeCall number) e = refl
 own-concerns f (packetCall p lent) e = e
 
@@ -299,5 +301,5 @@ module _ (store : List ℕ) (whole : length store ≡ 32768) (f : OpenedFilter) 
     pub alone : handed f (history ours store (keep (isOwn f) later ++ keep (concerns (f .pid)) before)) ≡ handed f (history ours store (later ++ before))
     alone =
         ledger store whole less .hands f opened-less
-        ∙ ap (λ (o : Owed). completed (o .0) (o .1)) same-owed
+        ∙ ap (λ (o : Owed). through (f .choice) (completed (o .0) (o .1))) same-owed
         ∙ sym (ledger store whole (later ++ before) .hands f (run-opened later))

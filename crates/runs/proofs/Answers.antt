@@ -2,14 +2,14 @@
 -- Assumes nothing.
 use mathlib.Core.Path.{_≡_, refl, sym, _∙_, ap, ap₂}
 use mathlib.Core.Bool.{Bool, true, false, cond, not, _&&_, _||_, false≢true}
-use mathlib.Core.List.{List, [], _∷_, _++_}
+use mathlib.Core.List.{List, [], _∷_, _++_, map}
 use Prim.Native.Nat.{ℕ, _+_, _≤_, _<_}
 use native.Mathlib.Nat.{zero-add}
 use native.Mathlib.Decide.{ℕ-discrete, decLt, decLe}
 use native.Mathlib.Omega.{arith}
 use borrow.Author.Tests.{eqb-true, eq-eqb, ne-eqb, lt-ltb, le-ltb, le-leb, lt-leb, ltb-true}
 use lib.Dec.{eqb, ltb, leb}
-use lib.ListN.{length, drop, getD}
+use lib.ListN.{length, drop, getD, length-map}
 use Rattle.ground.specs.Answer.{refused, given}
 use Rattle.ground.specs.Perhaps.{Perhaps, there, absent}
 use Rattle.ground.specs.Refusal.{judge}
@@ -24,21 +24,29 @@ use Rattle.packet.specs.Packet.{packetRefusals}
 use Rattle.gather.specs.Rule.{Outcome, rule}
 use Rattle.gather.specs.Kind.{join}
 use Rattle.gather.specs.Memory.{stateOf}
-use Rattle.state.specs.State.{isUsed, isOpen, isFree, standsOn, areaOf, placeOf, areaStart, freePlaceOf, freeFilter, placesOn}
+use Rattle.section.specs.Section.{tableOf}
+use Rattle.state.specs.State.{isUsed, isOpen, isFree, standsOn, areaOf, placeOf, areaStart, freePlaceOf, freeFilter}
+use Rattle.state.specs.Choice.{lets, choiceOf, placesOf, freePlace, isFor, placesFor}
+use Rattle.state.specs.declared.Choice.{Choice}
 use Rattle.open_call.specs.Open.{AfterOpen, hasArea, areaFor, openRefusals, opened as openedState, openOf}
 use Rattle.close_call.specs.Close as close
 use Rattle.close_call.specs.Close.{closeOf}
-use Rattle.packet_call.specs.Packet.{AfterPacket, unwanted, asGiven, pidOf, packetFrom, report, outcome, putBack, firstRefusals, lastRefusals, afterReading, afterTests, packetOf}
+use Rattle.packet_call.specs.Packet.{AfterPacket, unwanted, asGiven, pidOf, packetFrom, report, outcome, setsFor, putBack, firstRefusals, lastRefusals, afterReading, afterTests, packetOf}
 use Rattle.state.specs.declared.Area.{Area}
 use Rattle.state.specs.declared.Filter.{Filter}
 use Rattle.state.specs.declared.State.{State}
 use Rattle.sound.proofs.Clauses.{open-stands, used-inside}
+use Rattle.state.proofs.Chosen.{placed-length, placed-at}
 use Rattle.state.proofs.Found.{has-pid, found-area, found-place}
-use Rattle.runs.specs.Run.{Call, openCall, closeCall, packetCall, World, Event, openEvent, closeEvent, packetEvent, event, ours}
-use Rattle.runs.specs.History.{OpenedFilter, AcceptedCall, opened, closed, packet, numbersGiven, openingOf, isOn, isClosed, moreOpens, standing, areasTaken, packets, remembered}
-use Rattle.runs.specs.Answers.{isAbsent, lowestFree, openAnswer, isGiven, closeAnswer, earlyRows, lateRows, outcomeAfter, placesAfter, written, packetAnswer, answerTo}
-use Rattle.runs.proofs.Ledger.{areaAt, filterAt, openingAt, seatAt, Ledger, stood, held-area, single, standing-long}
+use Rattle.runs.specs.Run.{Buffers, Call, openCall, closeCall, packetCall, World, Event, openEvent, closeEvent, packetEvent, event, ours}
+use Rattle.runs.specs.History.{OpenedFilter, AcceptedCall, opened, closed, packet, numbersGiven, openingOf, isOnFor, isClosed, moreOpens, standing, areasTaken, packets, remembered}
+use Rattle.runs.specs.Answers.{isAbsent, lowestFree, openAnswer, isGiven, closeAnswer, earlyRows, lateRows, outcomeAfter, placesAfter, written, listed, filled, packetAnswer, answerTo}
+use Rattle.runs.proofs.Ledger.{areaAt, filterAt, codeAt, openingAt, seatAt, Ledger, stood, held-area, single, standing-long}
 use Rattle.runs.proofs.Steps.{fine, agrees}
+
+pub map-same : {f g : List ℕ → ℕ} → ((x : List ℕ) → f x ≡ g x) → (l : List (List ℕ)) → map f l ≡ map g l
+map-same each [] = refl
+map-same each (x ∷ l) = ap₂ (λ (n : ℕ) (rest : List ℕ). n ∷ rest) (each x) (map-same each l)
 
 -- ---- tests of numbers
 above-next : (a n : ℕ) → ltb a (n + 1) ≡ leb a n
@@ -85,11 +93,11 @@ module _ (w : World) (h : List AcceptedCall) (l : Ledger w h) where
       go true e = rw e (lt-leb (length (s .areas)) (areaOf pid (s .areas)) (ltb-true (areaOf pid (s .areas)) (length (s .areas)) e))
       go false e = rw e (find-full (λ (a : Area). eqb (a .users) 0) (s .areas) ∙ ap₂ leb (l .eight) (l .busyAreas))
 
-  open-is : (pid : ℕ) → openOf (w .state) pid .answer ≡ openAnswer h pid
+  open-is : (pid : ℕ) (choice : Choice) → openOf (w .state) pid choice .answer ≡ openAnswer h pid choice
   unfolding openOf
-  open-is pid =
-      judge-seen (λ (o : AfterOpen). o .answer) (λ n. record { answer = refused n; state = s }) (openRefusals s pid)
-      (record { answer = given (record { number = s .next; place = freePlaceOf (s .filters) }); state = openedState s pid })
+  open-is pid choice =
+      judge-seen (λ (o : AfterOpen). o .answer) (λ n. record { answer = refused n; state = s }) (openRefusals s pid choice)
+      (record { answer = given (record { number = s .next; place = freePlaceOf (s .filters) }); state = openedState s pid choice })
       ∙ rw (fine w h l, l .numbers, above-next 65535 (numbersGiven h), l .places, lowest, no-area pid)
 
   -- ---- close
@@ -136,9 +144,9 @@ module _ (w : World) (h : List AcceptedCall) (l : Ledger w h) where
     mine : (isUsed (areaAt (w .state) (areaOf pid (w .state .areas))) ≡ true) × (areaAt (w .state) (areaOf pid (w .state .areas)) .pid .0 ≡ pid)
     mine = found-area pid (s .areas) b
 
-    -- a filter stands on the PID's area exactly where the open that it came of was of the PID
-    stands-seat : (j : ℕ) → standsOn (areaOf pid (w .state .areas)) (filterAt (w .state) j) ≡ isOn pid (seatAt (w .state) j)
-    stands-seat j = go (isOpen (filterAt s j)) refl
+    -- a filter stands on the PID's area and lets a table_id through exactly where the open that it came of was of the PID and of such a choice
+    stands-seat : (table j : ℕ) → (standsOn (areaOf pid (w .state .areas)) (filterAt (w .state) j) && lets (choiceOf (codeAt (w .state) j)) table) ≡ isOnFor pid table (seatAt (w .state) j)
+    stands-seat table j = go (isOpen (filterAt s j)) refl
       where
         same : isOpen (filterAt s j) ≡ true → Dec (filterAt s j .area ≡ own) → eqb (filterAt s j .area) own ≡ eqb (areaAt s (filterAt s j .area) .pid .0) pid
         same i (yes e) =
@@ -150,18 +158,22 @@ module _ (w : World) (h : List AcceptedCall) (l : Ledger w h) where
             ne-eqb (filterAt s j .area) own n
             ∙ sym (ne-eqb (areaAt s (filterAt s j .area) .pid .0) pid (λ e. n (single w h l pid (filterAt s j .area) own inside b (has-pid pid (areaAt s (filterAt s j .area)) used e) (has-pid pid (areaAt s own) (mine .0) (mine .1)))))
 
-        go : (c : Bool) → isOpen (filterAt s j) ≡ c → (c && eqb (filterAt s j .area) own) ≡ isOn pid (cond c (there (openingAt s j)) absent)
-        go true i = same i (ℕ-discrete (filterAt s j .area) own)
+        go : (c : Bool) → isOpen (filterAt s j) ≡ c → ((c && eqb (filterAt s j .area) own) && lets (choiceOf (codeAt s j)) table) ≡ isOnFor pid table (cond c (there (openingAt s j)) absent)
+        go true i = ap (λ (b : Bool). b && lets (choiceOf (codeAt s j)) table) (same i (ℕ-discrete (filterAt s j .area) own))
         go false i = refl
 
-    pub seat-on : (j : ℕ) → standsOn (areaOf pid (w .state .areas)) (filterAt (w .state) j) ≡ isOn pid (getD (standing h) j absent)
-    seat-on j = stands-seat j ∙ ap (isOn pid) (sym (l .seats j))
+    seat-for : (table j : ℕ) → j < length (placesOf (w .state)) → isFor (areaOf pid (w .state .areas)) table (getD (placesOf (w .state)) j freePlace) ≡ isOnFor pid table (getD (standing h) j absent)
+    seat-for table j b =
+        ap (isFor own table) (placed-at (s .filters) (s .choices) j (rw (placed-length (s .filters) (s .choices)) at b))
+        ∙ stands-seat table j
+        ∙ ap (isOnFor pid table) (sym (l .seats j))
 
-    places-are : placesOn (areaOf pid (w .state .areas)) (w .state .filters) ≡ placesAfter h pid
-    places-are =
-        set-tests (standsOn own) (s .filters)
-        ∙ ap (setOf (λ (c : Bool). c)) (tests-same (standsOn own) (isOn pid) (s .filters) (standing h) freeFilter absent (l .places ∙ sym (standing-long h)) (λ j _. seat-on j))
-        ∙ sym (set-tests (isOn pid) (standing h))
+    pub places-are : (table : ℕ) → placesFor (areaOf pid (w .state .areas)) table (placesOf (w .state)) ≡ placesAfter h pid table
+    places-are table =
+        set-tests (isFor own table) (placesOf s)
+        ∙ ap (setOf (λ (c : Bool). c))
+        (tests-same (isFor own table) (isOnFor pid table) (placesOf s) (standing h) freePlace absent (placed-length (s .filters) (s .choices) ∙ l .places ∙ sym (standing-long h)) (seat-for table))
+        ∙ sym (set-tests (isOnFor pid table) (standing h))
 
     -- what the area remembers
     from : stateOf (areaAt (w .state) (areaOf pid (w .state .areas)) .marks) (w .store) (areaStart (areaOf pid (w .state .areas))) ≡ remembered (packets pid h)
@@ -172,52 +184,60 @@ module _ (w : World) (h : List AcceptedCall) (l : Ledger w h) where
   unfolding put
   written-is o lent = ap (λ (n : ℕ). join (o .sections) ++ drop n lent) (zero-add (length (join (o .sections))))
 
-  module _ (p lent : List ℕ) where
+  -- the sets of the sections, and then what was lent
+  pub listed-is : (pid : ℕ) → areaOf pid (w .state .areas) < length (w .state .areas) → (o : Outcome) (lent : List ℕ)
+      → put lent 0 (setsFor (areaOf pid (w .state .areas)) (placesOf (w .state)) (o .sections)) ≡ listed h pid o lent
+  unfolding put
+  listed-is pid b o lent =
+      ap₂ (λ (l : List ℕ) (n : ℕ). l ++ drop n lent) (map-same (λ x. places-are pid b (tableOf x)) (o .sections))
+      (zero-add (length (setsFor (areaOf pid (s .areas)) (placesOf s) (o .sections))) ∙ length-map (o .sections) _)
+
+  module _ (p : List ℕ) (lent : Buffers) where
     abbrev home : ℕ
     home = areaOf (pidOf p) (s .areas)
 
     abbrev see : AfterPacket → Event
-    see o = packetEvent p lent (o .answer) (o .out)
+    see o = packetEvent p lent (o .answer) (record { out = o .out; sets = o .sets })
 
     abbrev refuse : ℕ → Event
     refuse n = packetEvent p lent (refused n) lent
 
     abbrev takes : Event
-    takes = packetEvent p lent (given (report (outcomeAfter h p) (placesAfter h (pidOf p)))) (written (outcomeAfter h p) lent)
+    takes = packetEvent p lent (given (report (outcomeAfter h p))) (filled h p lent)
 
     pub outcome-is : areaOf (pidOf p) (w .state .areas) < length (w .state .areas) → outcome (w .state) (areaOf (pidOf p) (w .state .areas)) p (w .store) ≡ outcomeAfter h p
     outcome-is b = ap (λ st. rule st (packetFrom p)) (from (pidOf p) b)
 
-    taken-is : home < length (s .areas) → see (putBack s home (outcome s home p (w .store)) (w .store) lent) ≡ takes
+    taken-is : home < length (s .areas) → see (putBack s home (outcome s home p (w .store)) (w .store) (lent .out) (lent .sets)) ≡ takes
     taken-is b =
-        ap₂ (λ (o : Outcome) (n : ℕ). packetEvent p lent (given (report o n)) (put lent 0 (join (o .sections)))) (outcome-is b) (places-are (pidOf p) b)
-        ∙ ap (packetEvent p lent (given (report (outcomeAfter h p) (placesAfter h (pidOf p))))) (written-is (outcomeAfter h p) lent)
+        ap (λ (o : Outcome). packetEvent p lent (given (report o)) (record { out = put (lent .out) 0 (join (o .sections)); sets = put (lent .sets) 0 (setsFor home (placesOf s) (o .sections)) })) (outcome-is b)
+        ∙ ap₂ (λ (x y : List ℕ). packetEvent p lent (given (report (outcomeAfter h p))) (record { out = x; sets = y })) (written-is (outcomeAfter h p) (lent .out)) (listed-is (pidOf p) b (outcomeAfter h p) (lent .sets))
 
-    reading-is : see (afterReading s home p (w .store) lent) ≡ cond (moreOpens (pidOf p) h) (judge refuse (lateRows p) takes) (packetEvent p lent (given unwanted) lent)
+    reading-is : see (afterReading s home p (w .store) (lent .out) (lent .sets)) ≡ cond (moreOpens (pidOf p) h) (judge refuse (lateRows p) takes) (packetEvent p lent (given unwanted) lent)
     reading-is = go (decLt home (length (s .areas)))
       where
-        go : Dec (home < length (s .areas)) → see (afterReading s home p (w .store) lent) ≡ cond (moreOpens (pidOf p) h) (judge refuse (lateRows p) takes) (packetEvent p lent (given unwanted) lent)
+        go : Dec (home < length (s .areas)) → see (afterReading s home p (w .store) (lent .out) (lent .sets)) ≡ cond (moreOpens (pidOf p) h) (judge refuse (lateRows p) takes) (packetEvent p lent (given unwanted) lent)
         go (yes b) =
-            ap (λ (c : Bool). see (cond c (asGiven s (w .store) lent (given unwanted)) (afterTests s home p (w .store) lent))) (lt-leb (length (s .areas)) home b)
-            ∙ judge-seen see (λ n. asGiven s (w .store) lent (refused n)) (lastRefusals s home p (w .store)) (putBack s home (outcome s home p (w .store)) (w .store) lent)
-            ∙ ap (λ (c : Bool). cond c (refuse 9) (judge refuse (lateRows p) (see (putBack s home (outcome s home p (w .store)) (w .store) lent)))) (agrees w h l (pidOf p) b)
+            ap (λ (c : Bool). see (cond c (asGiven s (w .store) (lent .out) (lent .sets) (given unwanted)) (afterTests s home p (w .store) (lent .out) (lent .sets)))) (lt-leb (length (s .areas)) home b)
+            ∙ judge-seen see (λ n. asGiven s (w .store) (lent .out) (lent .sets) (refused n)) (lastRefusals s home p (w .store)) (putBack s home (outcome s home p (w .store)) (w .store) (lent .out) (lent .sets))
+            ∙ ap (λ (c : Bool). cond c (refuse 9) (judge refuse (lateRows p) (see (putBack s home (outcome s home p (w .store)) (w .store) (lent .out) (lent .sets))))) (agrees w h l (pidOf p) b)
             ∙ ap (judge refuse (lateRows p)) (taken-is b)
             ∙ ap (λ (c : Bool). cond c (judge refuse (lateRows p) takes) (packetEvent p lent (given unwanted) lent)) (sym (sym (held-area w h l (pidOf p)) ∙ lt-ltb home (length (s .areas)) b))
         go (no n) =
-            ap (λ (c : Bool). see (cond c (asGiven s (w .store) lent (given unwanted)) (afterTests s home p (w .store) lent))) (le-leb (length (s .areas)) home (omega arith))
+            ap (λ (c : Bool). see (cond c (asGiven s (w .store) (lent .out) (lent .sets) (given unwanted)) (afterTests s home p (w .store) (lent .out) (lent .sets)))) (le-leb (length (s .areas)) home (omega arith))
             ∙ ap (λ (c : Bool). cond c (judge refuse (lateRows p) takes) (packetEvent p lent (given unwanted) lent))
             (sym (sym (held-area w h l (pidOf p)) ∙ le-ltb home (length (s .areas)) (omega arith)))
 
     packet-is : event ours w (packetCall p lent) ≡ packetAnswer h p lent
     unfolding packetOf
     packet-is =
-        judge-seen see (λ n. asGiven s (w .store) lent (refused n)) (firstRefusals s p (w .store) lent) (afterReading s home p (w .store) lent)
-        ∙ ap₂ (λ (b c : Bool). cond (not b) (refuse 1) (cond (not c || ltb (length lent) 4278) (refuse 3) (judge refuse (packetRefusals p) (see (afterReading s home p (w .store) lent)))))
+        judge-seen see (λ n. asGiven s (w .store) (lent .out) (lent .sets) (refused n)) (firstRefusals s p (w .store) (lent .out) (lent .sets)) (afterReading s home p (w .store) (lent .out) (lent .sets))
+        ∙ ap₂ (λ (b c : Bool). cond (not b) (refuse 1) (cond (not c || ltb (length (lent .out)) 4278 || ltb (length (lent .sets)) 61) (refuse 3) (judge refuse (packetRefusals p) (see (afterReading s home p (w .store) (lent .out) (lent .sets))))))
         (fine w h l) (eq-eqb (length (w .store)) 32768 (l .whole))
         ∙ ap (judge refuse (earlyRows p lent)) reading-is
 
   -- ---- any call
   pub answers : (c : Call) → event ours w c ≡ answerTo h c
-  answers (openCall pid) = ap (openEvent pid) (open-is pid)
+  answers (openCall pid choice) = ap (openEvent pid choice) (open-is pid choice)
   answers (closeCall number) = ap (closeEvent number) (close-is number)
   answers (packetCall p lent) = packet-is p lent

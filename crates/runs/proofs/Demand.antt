@@ -2,34 +2,48 @@
 -- Assumes nothing.
 use mathlib.Core.Path.{_≡_, refl, sym, _∙_, ap, ap₂}
 use mathlib.Core.Bool.{true, not, false≢true}
-use mathlib.Core.List.{List}
-use Prim.Native.Nat.{ℕ}
+use mathlib.Core.List.{List, [], _∷_, map}
+use Prim.Native.Nat.{ℕ, zero, suc, _≤_, _<_}
+use native.Mathlib.Nat.{not-suc-le-zero, le-of-suc-le-suc}
 use native.Mathlib.Omega.{arith}
 use borrow.Author.Tests.{ltb-true}
-use lib.ListN.{length}
+use lib.ListN.{length, getD, length-map}
 use Rattle.ground.specs.Answer.{refused, given}
 use Rattle.ground.specs.Set.{isIn}
-use Rattle.ground.specs.Write.{put}
+use Rattle.ground.specs.Perhaps.{absent}
+use Rattle.ground.specs.Write.{put, Rest}
 use Rattle.ground.proofs.Set.{in-set}
 use Rattle.ground.proofs.Test.{and-false}
+use Rattle.ground.proofs.Write.{put-item, put-rest}
 use Rattle.gather.specs.Rule.{Outcome}
 use Rattle.gather.specs.Kind.{join}
-use Rattle.state.specs.State.{standsOn, areaOf, areaStart, freeFilter, placesOn}
+use Rattle.gather.specs.Memory.{stateOf}
+use Rattle.gather.proofs.RuleKeeps.{rule-keeps}
+use Rattle.gather.proofs.Stored.{output-cut}
+use Rattle.section.specs.Section.{tableOf}
+use Rattle.state.specs.State.{areaOf, areaStart}
+use Rattle.state.specs.Choice.{placesOf}
+use Rattle.state.specs.declared.Choice.{Choice}
 use Rattle.open_call.specs.Open.{Place, hasArea}
-use Rattle.packet_call.specs.Packet.{Said, unwanted, pidOf, report, outcome}
+use Rattle.packet_call.specs.Packet.{Said, unwanted, pidOf, packetFrom, report, outcome, setsFor}
 use Rattle.state.specs.declared.State.{State}
 use Rattle.state.proofs.Found.{found-area}
 use Rattle.driver.proofs.Cases.{Handles, open-ind, packet-ind}
-use Rattle.runs.specs.Run.{openCall, closeCall, packetCall, World, openEvent, closeEvent, packetEvent, after, event, start, ours}
-use Rattle.runs.specs.History.{AcceptedCall, isAccepted, openingOf, isClosed}
-use Rattle.runs.specs.Answers.{isAbsent, outcomeAfter, written}
-use Rattle.runs.specs.Demand.{worldAfter, history, isOpenOn, Statement}
+use Rattle.runs.specs.Run.{Buffers, openCall, closeCall, packetCall, World, openEvent, closeEvent, packetEvent, after, event, start, ours}
+use Rattle.runs.specs.History.{AcceptedCall, isAccepted, openingOf, isOnFor, isClosed, standing, sectionsOf}
+use Rattle.runs.specs.Answers.{isAbsent, outcomeAfter, placesAfter, written}
+use Rattle.runs.specs.Demand.{worldAfter, history, isOpenFor, Statement}
 use Rattle.runs.proofs.Ledger.{areaAt, Ledger, held-area, single, users}
 use Rattle.runs.proofs.Steps.{ledger, quiet}
-use Rattle.runs.proofs.Answers.{answers, seat-on, outcome-is, written-is}
+use Rattle.runs.proofs.Answers.{answers, map-same, places-are, outcome-is, written-is}
 use Rattle.runs.proofs.Others.{others}
 use Rattle.runs.proofs.Alone.{alone}
 use Rattle.runs.proofs.Idle.{still, idle-world, idle-log}
+
+map-at : (f : List ℕ → ℕ) (l : List (List ℕ)) (k : ℕ) → k < length l → getD (map f l) k 0 ≡ f (getD l k [])
+map-at f [] k b = absurd (not-suc-le-zero b)
+map-at f (x ∷ l) zero b = refl
+map-at f (x ∷ l) (suc k) b = map-at f l k (le-of-suc-le-suc b)
 
 module _ (w : World) (h : List AcceptedCall) (l : Ledger w h) where
   abbrev s : State
@@ -44,48 +58,87 @@ module _ (w : World) (h : List AcceptedCall) (l : Ledger w h) where
   gone number e = answers w h l (closeCall number) ∙ rw (e, and-false (not (isAbsent (openingOf number h))))
 
   -- an open gives the next number
-  gives : (pid : ℕ) (a : Place) → event ours w (openCall pid) ≡ openEvent pid (given a) → a .number ≡ w .state .next
-  gives pid a =
-      open-ind s pid (λ o. openEvent pid (o .answer) ≡ openEvent pid (given a) → a .number ≡ s .next)
+  gives : (pid : ℕ) (choice : Choice) (a : Place) → event ours w (openCall pid choice) ≡ openEvent pid choice (given a) → a .number ≡ w .state .next
+  gives pid choice a =
+      open-ind s pid choice (λ o. openEvent pid choice (o .answer) ≡ openEvent pid choice (given a) → a .number ≡ s .next)
       (λ n x y e. let z : _≡_ {A = ℕ} 0 1 = cc in absurd (omega arith)) (λ o e. let same : s .next ≡ a .number = cc in sym same)
 
-  -- what is said of an accepted packet
-  pub record Told (p lent out : List ℕ) (r : Said) : Type 0 where
-    pub set : (place : ℕ) → isIn place (r .places) ≡ isOpenOn (pidOf p) place h
-    pub whole : (r ≡ report (outcomeAfter h p) (r .places)) × (out ≡ written (outcomeAfter h p) lent)
+  -- what is said of an accepted packet, and left in the buffers
+  pub record Told (p : List ℕ) (lent after : Buffers) (r : Said) : Type 0 where
+    pub is : r ≡ report (outcomeAfter h p)
+    pub out : after .out ≡ written (outcomeAfter h p) (lent .out)
+    pub sets : after .sets ≡ put (lent .sets) 0 (map (λ x. placesAfter h (pidOf p) (tableOf x)) (outcomeAfter h p .sections))
+    pub room : length (outcomeAfter h p .sections) ≤ length (lent .sets)
+    pub sections : sectionsOf r after ≡ outcomeAfter h p .sections
 
-  told : (p lent out : List ℕ) (r : Said) → event ours w (packetCall p lent) ≡ packetEvent p lent (given r) out → r .wanted ≡ true → Told p lent out r
-  told p lent out r =
-      packet-ind s p (w .store) lent (λ o. packetEvent p lent (o .answer) (o .out) ≡ packetEvent p lent (given r) out → r .wanted ≡ true → Told p lent out r)
+  told : (p : List ℕ) (lent after : Buffers) (r : Said) → event ours w (packetCall p lent) ≡ packetEvent p lent (given r) after → r .wanted ≡ true → Told p lent after r
+  told p lent after r =
+      packet-ind s p (w .store) (lent .out) (lent .sets)
+      (λ o. packetEvent p lent (o .answer) (record { out = o .out; sets = o .sets }) ≡ packetEvent p lent (given r) after → r .wanted ≡ true → Told p lent after r)
       (λ n a b e k. let z : _≡_ {A = ℕ} 0 1 = cc in absurd (omega arith))
       (λ b e k. let same : unwanted ≡ r = cc in absurd (false≢true (ap (λ (x : Said). x .wanted) same ∙ k))) on
     where
       own : ℕ
       own = areaOf (pidOf p) (w .state .areas)
 
-      on : Handles s p (w .store) lent
-          → packetEvent p lent (given (report (outcome s own p (w .store)) (placesOn own (s .filters)))) (put lent 0 (join (outcome s own p (w .store) .sections))) ≡ packetEvent p lent (given r) out
-          → r .wanted ≡ true → Told p lent out r
+      o : Outcome
+      o = outcome s own p (w .store)
+
+      left : Buffers
+      left = record { out = put (lent .out) 0 (join (o .sections)); sets = put (lent .sets) 0 (setsFor own (placesOf s) (o .sections)) }
+
+      on : Handles s p (w .store) (lent .out) (lent .sets) → packetEvent p lent (given (report o)) left ≡ packetEvent p lent (given r) after → r .wanted ≡ true → Told p lent after r
       on k e q =
-          let same : report (outcome s own p (w .store)) (placesOn own (s .filters)) ≡ r = cc in
-          let output : put lent 0 (join (outcome s own p (w .store) .sections)) ≡ out = cc in
+          let same : report o ≡ r = cc in
+          let buffers : left ≡ after = cc in
           let is = outcome-is w h l p lent (k .area) in
+          let keeps = rule-keeps (stateOf (areaAt s own .marks) (w .store) (areaStart own)) (packetFrom p) (k .agrees) in
+          let few = keeps .count (k .short) in
+          let most = keeps .bytes (k .short) in
+          let many = ap (λ (x : Outcome). length (x .sections)) is in
           record {
-            set = λ place.
-                ap (λ (x : Said). isIn place (x .places)) (sym same)
-                ∙ in-set (standsOn own) (s .filters) place freeFilter refl
-                ∙ seat-on w h l (pidOf p) (k .area) place;
-            whole = (
-              sym same ∙ ap₂ report is (ap (λ (x : Said). x .places) same),
-              sym output ∙ ap (λ (o : Outcome). put lent 0 (join (o .sections))) is ∙ written-is w h l (outcomeAfter h p) lent,
-            );
+            is = sym same ∙ ap report is;
+            out = ap (λ (b : Buffers). b .out) (sym buffers) ∙ ap (λ (x : Outcome). put (lent .out) 0 (join (x .sections))) is ∙ written-is w h l (outcomeAfter h p) (lent .out);
+            sets =
+                ap (λ (b : Buffers). b .sets) (sym buffers)
+                ∙ ap (λ (x : Outcome). put (lent .sets) 0 (setsFor own (placesOf s) (x .sections))) is
+                ∙ ap (put (lent .sets) 0) (map-same (λ x. places-are w h l (pidOf p) (k .area) (tableOf x)) (outcomeAfter h p .sections));
+            room = omega (arith, few, many, k .listed);
+            sections = ap₂ sectionsOf (sym same) (sym buffers) ∙ output-cut (o .sections) (lent .out) (keeps .whole) (omega (arith, most, k .room)) ∙ ap (λ (x : Outcome). x .sections) is;
           }
 
-  writes : (p lent : List ℕ) → isAccepted (event ours w (packetCall p lent)) ≡ true
+  set : (p : List ℕ) (lent after : Buffers) (r : Said) → Told p lent after r
+      → ((k : ℕ) → k < length (sectionsOf r after) → (place : ℕ) → isIn place (getD (after .sets) k 0) ≡ isOpenFor (pidOf p) (tableOf (getD (sectionsOf r after) k [])) place h)
+      × Rest (length (sectionsOf r after)) (lent .sets) (after .sets)
+  set p lent after r t = rw (t .sections, t .sets) (each, rest)
+    where
+      ss : List (List ℕ)
+      ss = outcomeAfter h p .sections
+
+      set-of : List ℕ → ℕ
+      set-of x = placesAfter h (pidOf p) (tableOf x)
+
+      long : length (map set-of ss) ≡ length ss
+      long = length-map ss set-of
+
+      room : length (map set-of ss) ≤ length (lent .sets)
+      room = let b = t .room in omega (arith, b, long)
+
+      each : (k : ℕ) → k < length ss → (place : ℕ) → isIn place (getD (put (lent .sets) 0 (map set-of ss)) k 0) ≡ isOpenFor (pidOf p) (tableOf (getD ss k [])) place h
+      each k b place =
+          ap (isIn place) (put-item (lent .sets) (map set-of ss) room k 0 (rw long b) ∙ map-at set-of ss k b)
+          ∙ in-set (isOnFor (pidOf p) (tableOf (getD ss k []))) (standing h) place absent refl
+
+      rest : Rest (length ss) (lent .sets) (put (lent .sets) 0 (map set-of ss))
+      rest = rw long at (put-rest (lent .sets) (map set-of ss) room)
+
+  writes : (p : List ℕ) (lent : Buffers) → isAccepted (event ours w (packetCall p lent)) ≡ true
       → after ours w (packetCall p lent) .store ≡ put (w .store) (areaStart (areaOf (pidOf p) (w .state .areas))) (outcomeAfter h p .next .held)
   writes p lent =
-      packet-ind s p (w .store) lent
-      (λ o. isAccepted (packetEvent p lent (o .answer) (o .out)) ≡ true → o .store ≡ put (w .store) (areaStart (areaOf (pidOf p) (s .areas))) (outcomeAfter h p .next .held))
+      packet-ind s p (w .store) (lent .out) (lent .sets)
+      (λ o.
+      isAccepted (packetEvent p lent (o .answer) (record { out = o .out; sets = o .sets })) ≡ true
+      → o .store ≡ put (w .store) (areaStart (areaOf (pidOf p) (s .areas))) (outcomeAfter h p .next .held))
       (λ n a b e. absurd (false≢true e)) (λ b e. absurd (false≢true e))
       (λ k e. ap (λ (o : Outcome). put (w .store) (areaStart (areaOf (pidOf p) (s .areas))) (o .next .held)) (outcome-is w h l p lent (k .area)))
 
@@ -101,18 +154,18 @@ statement store calls e =
       users = λ i b. let long = l .eight in users w h l i (omega arith);
       holds = λ i b. let long = l .eight in l .remembers i (omega arith);
       gone = gone w h l;
-      never = λ number pid a k g is.
+      never = λ number pid choice a k g is.
           let b = l .ended number k in
-          let n = gives w h l pid a g in
+          let n = gives w h l pid choice a g in
           omega arith;
-      once = λ number pid a f k g is.
+      once = λ number pid choice a f k g is.
           let b = l .given number f k .1 in
-          let n = gives w h l pid a g in
+          let n = gives w h l pid choice a g in
           omega arith;
       answers = answers w h l;
       refusals = quiet store e calls;
-      set = λ p lent out r q k. told w h l p lent out r q k .set;
-      whole = λ p lent out r q k. told w h l p lent out r q k .whole;
+      set = λ p lent after r q k. set w h l p lent after r (told w h l p lent after r q k);
+      whole = λ p lent after r q k. let t = told w h l p lent after r q k in (t .is, t .out);
       writes = writes w h l;
       counts = l .counts;
       hands = l .hands;

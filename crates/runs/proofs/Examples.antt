@@ -13,17 +13,19 @@ use Rattle.open_call.specs.Open.{openOf}
 use Rattle.close_call.specs.Close.{closeOf}
 use Rattle.packet_call.specs.Packet.{packetOf}
 use Rattle.sound.specs.Sound.{sound}
-use Rattle.runs.specs.Run.{Call, openCall, closeCall, packetCall, openEvent, closeEvent, start, logFrom, ours}
+use Rattle.state.specs.Choice.{through}
+use Rattle.state.specs.declared.Choice.the-variants.{All, One}
+use Rattle.runs.specs.Run.{Call, openCall, closeCall, packetCall, Event, openEvent, closeEvent, packetEvent, start, event, runFrom, logFrom, ours}
 use Rattle.runs.specs.Answers.{placesAfter, openAnswer, closeAnswer}
 use Rattle.runs.specs.History.{OpenedFilter, AcceptedCall, opened, closed, accepted, standing, areasTaken, upToClose, handed, packets, since, remembered, completed}
 
 -- a number is given, closed, refused 16 and never given again
 pub closed-for-good :
-    logFrom ours (start []) (openCall 0 ∷ closeCall 1 ∷ closeCall 1 ∷ openCall 0 ∷ [])
-    ≡ openEvent 0 (given (record { number = 2; place = 0 }))
+    logFrom ours (start []) (openCall 0 All ∷ closeCall 1 ∷ closeCall 1 ∷ openCall 0 All ∷ [])
+    ≡ openEvent 0 All (given (record { number = 2; place = 0 }))
     ∷ closeEvent 1 (refused 16)
     ∷ closeEvent 1 (given tt)
-    ∷ openEvent 0 (given (record { number = 1; place = 0 }))
+    ∷ openEvent 0 All (given (record { number = 1; place = 0 }))
     ∷ []
 unfolding openOf closeOf sound
 closed-for-good = refl
@@ -32,12 +34,12 @@ closed-for-good = refl
 abbrev after : List Call → List AcceptedCall
 after calls = accepted (logFrom ours (start (replicate 32768 0)) calls)
 
--- after the calls a filter was handed these sections, and these are what the rule completes
+-- after the calls a filter was handed these sections, and these are what it lets through of what the rule completes
 abbrev Handed : OpenedFilter → List Call → List (List ℕ) → Type 0
-Handed f calls sections = (handed f (after calls) ≡ sections) × (completed (since f (after calls)) (packets (f .pid) (after calls)) ≡ sections)
+Handed f calls sections = (handed f (after calls) ≡ sections) × (through (f .choice) (completed (since f (after calls)) (packets (f .pid) (after calls))) ≡ sections)
 
 abbrev lend : List ℕ → Call
-lend p = packetCall p (replicate 4278 0)
+lend p = packetCall p (record { out = replicate 4278 0; sets = replicate 61 0 })
 
 -- the first packet of document 01's listing: a section of four bytes on PID 0
 abbrev listed : List ℕ
@@ -51,45 +53,88 @@ abbrev back : List ℕ
 back = 0x47 ∷ 0x00 ∷ 0x00 ∷ 0x11 ∷ replicate 120 0x2A ++ replicate 64 0xFF
 
 -- a filter is handed a section
-pub whole-section : Handed (record { number = 1; pid = 0; place = 0 }) (lend listed ∷ openCall 0 ∷ []) ((0x80 ∷ 0x30 ∷ 0x01 ∷ 0xAA ∷ []) ∷ [])
+pub whole-section : Handed (record { number = 1; pid = 0; choice = All; place = 0 }) (lend listed ∷ openCall 0 All ∷ []) ((0x80 ∷ 0x30 ∷ 0x01 ∷ 0xAA ∷ []) ∷ [])
 unfolding openOf closeOf packetOf sound put rule walk add started classify kindOf remembered completed
 whole-section = (refl, refl)
 
 -- a filter that comes to a place after another is handed nothing of what that one was handed
-pub before-its-open : Handed (record { number = 2; pid = 0; place = 0 }) (openCall 0 ∷ closeCall 1 ∷ lend listed ∷ openCall 0 ∷ []) []
+pub before-its-open : Handed (record { number = 2; pid = 0; choice = All; place = 0 }) (openCall 0 All ∷ closeCall 1 ∷ lend listed ∷ openCall 0 All ∷ []) []
 unfolding openOf closeOf packetOf sound put rule walk add started classify kindOf remembered completed
 before-its-open = (refl, refl)
 
 -- a second filter that is opened in the midst of a section is handed it too
 pub shared-section :
-    Handed (record { number = 2; pid = 0; place = 1 }) (lend back ∷ openCall 0 ∷ lend front ∷ openCall 0 ∷ []) ((0x80 ∷ 0xB1 ∷ 0x2C ∷ replicate 300 0x2A) ∷ [])
+    Handed (record { number = 2; pid = 0; choice = All; place = 1 }) (lend back ∷ openCall 0 All ∷ lend front ∷ openCall 0 All ∷ []) ((0x80 ∷ 0xB1 ∷ 0x2C ∷ replicate 300 0x2A) ∷ [])
 unfolding openOf closeOf packetOf sound put rule walk add started classify kindOf remembered completed
 shared-section = (refl, refl)
 
 -- the last close forgets what was held
-pub forgotten-section : Handed (record { number = 2; pid = 0; place = 0 }) (lend back ∷ openCall 0 ∷ closeCall 1 ∷ lend front ∷ openCall 0 ∷ []) []
+pub forgotten-section : Handed (record { number = 2; pid = 0; choice = All; place = 0 }) (lend back ∷ openCall 0 All ∷ closeCall 1 ∷ lend front ∷ openCall 0 All ∷ []) []
 unfolding openOf closeOf packetOf sound put rule walk add started classify kindOf remembered completed
 forgotten-section = (refl, refl)
+
+-- ---- one table only
+-- three filters on PID 18, of all tables, of table_id 78 and of table_id 80
+abbrev guides : List Call
+guides = openCall 18 (One 80) ∷ openCall 18 (One 78) ∷ openCall 18 All ∷ []
+
+-- sections of table_id 78, 66, 80 and 78
+abbrev guide : List ℕ
+guide =
+    0x47 ∷ 0x40 ∷ 0x12 ∷ 0x10 ∷ 0x00 ∷ 0x4E ∷ 0x30 ∷ 0x00 ∷ 0x42 ∷ 0x30 ∷ 0x01 ∷ 0xAA ∷ 0x50 ∷ 0x30 ∷ 0x00 ∷ 0x4E ∷ 0x30 ∷ 0x02 ∷ 0xBB ∷ 0xCC ∷ replicate 168 0xFF
+
+-- the list after a call
+abbrev listAfter : Event → List ℕ
+listAfter (openEvent pid choice a) = []
+listAfter (closeEvent number a) = []
+listAfter (packetEvent p lent a out) = out .sets
+
+pub four-sets : listAfter (event ours (runFrom ours (start (replicate 32768 0)) guides) (lend guide)) ≡ 3 ∷ 1 ∷ 5 ∷ 3 ∷ replicate 57 0
+unfolding openOf closeOf packetOf sound put rule walk add started classify kindOf remembered completed
+four-sets = refl
+
+-- each is handed what it let through
+pub all-of-them :
+    Handed (record { number = 1; pid = 18; choice = All; place = 0 }) (lend guide ∷ guides)
+    ((0x4E ∷ 0x30 ∷ 0x00 ∷ []) ∷ (0x42 ∷ 0x30 ∷ 0x01 ∷ 0xAA ∷ []) ∷ (0x50 ∷ 0x30 ∷ 0x00 ∷ []) ∷ (0x4E ∷ 0x30 ∷ 0x02 ∷ 0xBB ∷ 0xCC ∷ []) ∷ [])
+unfolding openOf closeOf packetOf sound put rule walk add started classify kindOf remembered completed
+all-of-them = (refl, refl)
+
+pub one-of-two : Handed (record { number = 2; pid = 18; choice = One 78; place = 1 }) (lend guide ∷ guides) ((0x4E ∷ 0x30 ∷ 0x00 ∷ []) ∷ (0x4E ∷ 0x30 ∷ 0x02 ∷ 0xBB ∷ 0xCC ∷ []) ∷ [])
+unfolding openOf closeOf packetOf sound put rule walk add started classify kindOf remembered completed
+one-of-two = (refl, refl)
+
+-- once the first filter is closed nobody lets table_id 66 through
+abbrev later : List ℕ
+later = 0x47 ∷ 0x40 ∷ 0x12 ∷ 0x11 ∷ 0x00 ∷ 0x42 ∷ 0x30 ∷ 0x00 ∷ 0x50 ∷ 0x30 ∷ 0x00 ∷ replicate 177 0xFF
+
+pub nobody : take 3 (listAfter (event ours (runFrom ours (start (replicate 32768 0)) (closeCall 1 ∷ lend guide ∷ guides)) (packetCall later (record { out = replicate 4278 0; sets = replicate 61 9 })))) ≡ 0 ∷ 4 ∷ 9 ∷ []
+unfolding openOf closeOf packetOf sound put rule walk add started classify kindOf remembered completed
+nobody = refl
+
+-- table_id 255 is refused 17, after 12 and before 13
+pub barred : (openAnswer [] 18 (One 255) ≡ refused 17) × (openAnswer [] 0x1FFF (One 255) ≡ refused 12) × (openAnswer [] 18 (One 254) ≡ given (record { number = 1; place = 0 }))
+barred = (refl, refl, refl)
 
 -- ---- what a history says
 -- two filters on PID 0; the second is closed, and a filter on PID 5 comes to its place
 abbrev earlier : List AcceptedCall
-earlier = opened (record { number = 2; pid = 0; place = 1 }) ∷ opened (record { number = 1; pid = 0; place = 0 }) ∷ []
+earlier = opened (record { number = 2; pid = 0; choice = All; place = 1 }) ∷ opened (record { number = 1; pid = 0; choice = All; place = 0 }) ∷ []
 
 abbrev reused : List AcceptedCall
-reused = opened (record { number = 3; pid = 5; place = 1 }) ∷ closed 2 ∷ earlier
+reused = opened (record { number = 3; pid = 5; choice = All; place = 1 }) ∷ closed 2 ∷ earlier
 
-pub who-stands : take 3 (standing reused) ≡ there (record { number = 1; pid = 0; place = 0 }) ∷ there (record { number = 3; pid = 5; place = 1 }) ∷ absent ∷ []
+pub who-stands : take 3 (standing reused) ≡ there (record { number = 1; pid = 0; choice = All; place = 0 }) ∷ there (record { number = 3; pid = 5; choice = All; place = 1 }) ∷ absent ∷ []
 who-stands = refl
 
-pub whose-set : (placesAfter reused 0 ≡ 1) × (placesAfter reused 5 ≡ 2) × (placesAfter reused 7 ≡ 0)
+pub whose-set : (placesAfter reused 0 78 ≡ 1) × (placesAfter reused 5 78 ≡ 2) × (placesAfter reused 7 78 ≡ 0)
 whose-set = (refl, refl, refl)
 
 pub up-to-close : (upToClose 2 reused ≡ earlier) × (upToClose 3 reused ≡ reused)
 up-to-close = (refl, refl)
 
 pub opens-answered :
-    (openAnswer reused 0 ≡ given (record { number = 4; place = 2 })) × (openAnswer reused 0x1FFF ≡ refused 12) × (openAnswer (opened (record { number = 65535; pid = 5; place = 2 }) ∷ reused) 5 ≡ given (record { number = 5; place = 3 }))
+    (openAnswer reused 0 All ≡ given (record { number = 4; place = 2 })) × (openAnswer reused 0x1FFF All ≡ refused 12) × (openAnswer (opened (record { number = 65535; pid = 5; choice = All; place = 2 }) ∷ reused) 5 All ≡ given (record { number = 5; place = 3 }))
 opens-answered = (refl, refl, refl)
 
 pub closes-answered : (closeAnswer reused 3 ≡ given tt) × (closeAnswer reused 2 ≡ refused 16) × (closeAnswer reused 9 ≡ refused 16)
@@ -102,15 +147,15 @@ areas-counted = (refl, refl, refl, refl)
 -- eight PIDs, each with a filter
 abbrev eight : List AcceptedCall
 eight =
-    opened (record { number = 8; pid = 7; place = 7 })
-    ∷ opened (record { number = 7; pid = 6; place = 6 })
-    ∷ opened (record { number = 6; pid = 5; place = 5 })
-    ∷ opened (record { number = 5; pid = 4; place = 4 })
-    ∷ opened (record { number = 4; pid = 3; place = 3 })
-    ∷ opened (record { number = 3; pid = 2; place = 2 })
-    ∷ opened (record { number = 2; pid = 1; place = 1 })
-    ∷ opened (record { number = 1; pid = 0; place = 0 })
+    opened (record { number = 8; pid = 7; choice = All; place = 7 })
+    ∷ opened (record { number = 7; pid = 6; choice = All; place = 6 })
+    ∷ opened (record { number = 6; pid = 5; choice = All; place = 5 })
+    ∷ opened (record { number = 5; pid = 4; choice = All; place = 4 })
+    ∷ opened (record { number = 4; pid = 3; choice = All; place = 3 })
+    ∷ opened (record { number = 3; pid = 2; choice = All; place = 2 })
+    ∷ opened (record { number = 2; pid = 1; choice = All; place = 1 })
+    ∷ opened (record { number = 1; pid = 0; choice = All; place = 0 })
     ∷ []
 
-pub ninth-answered : (openAnswer eight 8 ≡ refused 15) × (openAnswer eight 3 ≡ given (record { number = 9; place = 8 })) × (openAnswer (closed 3 ∷ eight) 8 ≡ given (record { number = 9; place = 2 }))
+pub ninth-answered : (openAnswer eight 8 All ≡ refused 15) × (openAnswer eight 3 All ≡ given (record { number = 9; place = 8 })) × (openAnswer (closed 3 ∷ eight) 8 All ≡ given (record { number = 9; place = 2 }))
 ninth-answered = (refl, refl, refl)

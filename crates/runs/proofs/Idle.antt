@@ -10,14 +10,15 @@ use Rattle.runs.specs.History.{isAccepted}
 use Rattle.runs.specs.Demand.{heededFrom}
 
 pub still : (w : World) (c : Call) → isAccepted (event ours w c) ≡ false → after ours w c ≡ w
-still w (openCall pid) =
-    open-ind (w .state) pid (λ o. isAccepted (openEvent pid (o .answer)) ≡ false → record { state = o .state; store = w .store } ≡ w)
+still w (openCall pid choice) =
+    open-ind (w .state) pid choice (λ o. isAccepted (openEvent pid choice (o .answer)) ≡ false → record { state = o .state; store = w .store } ≡ w)
     (λ n a b e. refl) (λ o e. absurd (false≢true (sym e)))
 still w (closeCall number) =
     close-ind (w .state) number (λ o. isAccepted (closeEvent number (o .answer)) ≡ false → record { state = o .state; store = w .store } ≡ w)
     (λ n a b e. refl) (λ o e. absurd (false≢true (sym e)))
 still w (packetCall p lent) =
-    packet-ind (w .state) p (w .store) lent (λ o. isAccepted (packetEvent p lent (o .answer) (o .out)) ≡ false → record { state = o .state; store = o .store } ≡ w)
+    packet-ind (w .state) p (w .store) (lent .out) (lent .sets)
+    (λ o. isAccepted (packetEvent p lent (o .answer) (record { out = o .out; sets = o .sets })) ≡ false → record { state = o .state; store = o .store } ≡ w)
     (λ n a b e. refl) (λ b e. refl) (λ o e. absurd (false≢true (sym e)))
 
 module _ (w : World) where

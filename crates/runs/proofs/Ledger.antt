@@ -21,13 +21,14 @@ use Rattle.gather.proofs.RuleKeeps.{rule-keeps}
 use Rattle.state.specs.State.{isUsed, isOpen, hasPid, areaOf, areaStart, freeArea, freeFilter}
 use Rattle.open_call.specs.Open.{hasArea}
 use Rattle.packet_call.specs.Packet.{Said}
+use Rattle.state.specs.Choice.{through, choiceOf}
 use Rattle.state.specs.declared.Area.{Area}
 use Rattle.state.specs.declared.Filter.{Filter}
 use Rattle.state.specs.declared.State.{State}
 use Rattle.sound.proofs.Clauses.{Clauses, open-stands, used-inside, used-some}
 use Rattle.sound.proofs.Pids.{only-one}
 use Rattle.state.proofs.Found.{has-pid, found-area}
-use Rattle.runs.specs.Run.{World}
+use Rattle.runs.specs.Run.{Buffers, World}
 use Rattle.runs.specs.History.{OpenedFilter, AcceptedCall, opened, closed, packet, numbersGiven, opens, closes, openingOf, isClosed, moreOpens, standing, areasTaken, packets, since, upToClose, handed, remembered, completed}
 use Rattle.runs.specs.Demand.{IsCounted}
 use Rattle.runs.proofs.AsRun.{remembered-none, remembered-one}
@@ -47,13 +48,16 @@ pub record IsOpen (f : OpenedFilter) (h : List AcceptedCall) : Type 0 where
   pub opened : openingOf (f .number) h ≡ there f
   pub kept : isClosed (f .number) h ≡ false
 
--- what a filter was handed is what the rule completes up to its close
+-- what a filter was handed is what its choice lets through of what the rule completes up to its close
 abbrev pub Handed : OpenedFilter → List AcceptedCall → Type 0
-Handed f h = handed f h ≡ completed (since f (upToClose (f .number) h)) (packets (f .pid) (upToClose (f .number) h))
+Handed f h = handed f h ≡ through (f .choice) (completed (since f (upToClose (f .number) h)) (packets (f .pid) (upToClose (f .number) h)))
+
+abbrev pub codeAt : State → ℕ → ℕ
+codeAt s j = getD (s .choices) j 0
 
 -- the open that the filter at a place came of
 abbrev pub openingAt : State → ℕ → OpenedFilter
-openingAt s j = record { number = filterAt s j .number; pid = areaAt s (filterAt s j .area) .pid .0; place = j }
+openingAt s j = record { number = filterAt s j .number; pid = areaAt s (filterAt s j .area) .pid .0; choice = choiceOf (codeAt s j); place = j }
 
 -- who stands at a place, by the state
 abbrev pub seatAt : State → ℕ → Perhaps OpenedFilter
@@ -63,6 +67,7 @@ pub record Ledger (w : World) (h : List AcceptedCall) : Type 0 where
   pub whole : length (w .store) ≡ 32768
   pub eight : length (w .state .areas) ≡ 8
   pub places : length (w .state .filters) ≡ 32
+  pub codes : length (w .state .choices) ≡ 32
   pub clauses : Clauses (w .state)
   -- a PID's users are its opens less its closes
   pub balance : (pid : ℕ) → total (usersOf pid) (w .state .areas) + closes pid h ≡ opens pid h
@@ -81,7 +86,7 @@ pub record Ledger (w : World) (h : List AcceptedCall) : Type 0 where
       → stateOf (areaAt (w .state) i .marks) (w .store) (areaStart i) ≡ remembered (packets (areaAt (w .state) i .pid .0) h)
   -- every answer counts the sections in the output
   pub counts : Every IsCounted h
-  -- a filter was handed what the rule completes
+  -- a filter was handed what its choice lets through of what the rule completes
   pub hands : (f : OpenedFilter) → openingOf (f .number) h ≡ there f → Handed f h
 
 -- ---- up to a close
@@ -93,10 +98,10 @@ all-before n (closed m ∷ h) e = let k = neither (eqb m n) (isClosed n h) e in 
 all-before n (packet p lent r out ∷ h) e = rw e
 
 -- what is handed to an open filter
-pub open-handed : (f : OpenedFilter) (h : List AcceptedCall) → isClosed (f .number) h ≡ false → handed f h ≡ completed (since f h) (packets (f .pid) h) → Handed f h
+pub open-handed : (f : OpenedFilter) (h : List AcceptedCall) → isClosed (f .number) h ≡ false → handed f h ≡ through (f .choice) (completed (since f h) (packets (f .pid) h)) → Handed f h
 open-handed f h e q = rw (all-before (f .number) h e) q
 
-pub handed-open : (f : OpenedFilter) (h : List AcceptedCall) → isClosed (f .number) h ≡ false → Handed f h → handed f h ≡ completed (since f h) (packets (f .pid) h)
+pub handed-open : (f : OpenedFilter) (h : List AcceptedCall) → isClosed (f .number) h ≡ false → Handed f h → handed f h ≡ through (f .choice) (completed (since f h) (packets (f .pid) h))
 handed-open f h e q = rw (all-before (f .number) h e) at q
 
 -- after its close nothing more is handed to a filter
@@ -107,7 +112,7 @@ module _ (f : OpenedFilter) (h : List AcceptedCall) (e : isClosed (f .number) h 
   pub after-close : (number : ℕ) → Handed f (closed number ∷ h)
   after-close number = rw e q
 
-  pub after-packet : (p lent : List ℕ) (r : Said) (out : List ℕ) → Handed f (packet p lent r out ∷ h)
+  pub after-packet : (p : List ℕ) (lent : Buffers) (r : Said) (out : Buffers) → Handed f (packet p lent r out ∷ h)
   after-packet p lent r out = rw (e, append-nil) q
 
 -- what is remembered never contradicts itself
@@ -115,7 +120,7 @@ pub remembered-fine : (ps : List Packet) → contradicting (remembered ps .held)
 remembered-fine [] = ap (λ (s : Rule.State). contradicting (s .held)) remembered-none
 remembered-fine (p ∷ ps) = ap (λ (s : Rule.State). contradicting (s .held)) (remembered-one p ps) ∙ rule-keeps (remembered ps) p (remembered-fine ps) .part
 
--- an open filter stands on a used area that has its PID
+-- an open filter stands on a used area that has its PID, and its choice is there
 pub record Stands (s : State) (f : OpenedFilter) : Type 0 where
   pub inside : f .place < length (s .filters)
   pub number : filterAt s (f .place) .number ≡ f .number
@@ -123,6 +128,7 @@ pub record Stands (s : State) (f : OpenedFilter) : Type 0 where
   pub used : isUsed (areaAt s (filterAt s (f .place) .area)) ≡ true
   pub area : filterAt s (f .place) .area < length (s .areas)
   pub pid : areaAt s (filterAt s (f .place) .area) .pid .0 ≡ f .pid
+  pub choice : choiceOf (codeAt s (f .place)) ≡ f .choice
 
 pub same-there : {x y : OpenedFilter} → there x ≡ there y → x ≡ y
 same-there e = cc
@@ -145,6 +151,7 @@ module _ (w : World) (h : List AcceptedCall) (l : Ledger w h) where
         used = used;
         area = used-inside (s .areas) (filterAt s (f .place) .area) used;
         pid = ap (λ (g : OpenedFilter). g .pid) is;
+        choice = ap (λ (g : OpenedFilter). g .choice) is;
       }
     where
       nonzero : {n m : ℕ} → n ≡ m → 1 ≤ m → n ≡ 0 → ⊥

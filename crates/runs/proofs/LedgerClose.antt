@@ -1,6 +1,6 @@
 -- An accepted close keeps the ledger: one user less on the filter's area, which is forgotten with its last user and no sooner.
 -- Assumes nothing.
-use mathlib.Core.Path.{_≡_, refl, sym, _∙_, ap}
+use mathlib.Core.Path.{_≡_, refl, sym, _∙_, ap, ap₂}
 use mathlib.Core.Bool.{Bool, true, false, cond, _||_, false≢true}
 use mathlib.Core.List.{List, _∷_}
 use Prim.Native.Nat.{ℕ, _+_, _-_, _<_}
@@ -16,6 +16,7 @@ use Rattle.ground.specs.Perhaps.{Perhaps, there, absent}
 use Rattle.gather.specs.Memory.{stateOf}
 use Rattle.state.specs.State.{isUsed, isOpen, areaStart, placeOf, freeArea, freeFilter}
 use Rattle.close_call.specs.Close.{withoutUser, withoutFilter}
+use Rattle.state.specs.Choice.{choiceOf}
 use Rattle.state.specs.declared.Area.{Area}
 use Rattle.state.specs.declared.Filter.{Filter}
 use Rattle.state.specs.declared.State.{State}
@@ -26,7 +27,7 @@ use Rattle.ground.proofs.Test.{neither}
 use Rattle.driver.proofs.StaysSound.{closes-clauses}
 use Rattle.runs.specs.Run.{World}
 use Rattle.runs.specs.History.{OpenedFilter, AcceptedCall, closed, opens, closes, isOn, isLast, openingOf, isClosed, moreOpens, unless, standing, areasTaken, packets, remembered}
-use Rattle.runs.proofs.Ledger.{usersOf, areaAt, filterAt, openingAt, seatAt, same-there, IsOpen, Handed, Ledger, open-handed, handed-open, after-close, stood, users}
+use Rattle.runs.proofs.Ledger.{usersOf, areaAt, filterAt, codeAt, openingAt, seatAt, same-there, IsOpen, Handed, Ledger, open-handed, handed-open, after-close, stood, users}
 
 -- the area has one user less
 without-user-users : (q : ℕ) (a : Area) → isUsed a ≡ true → usersOf q (withoutUser a) + cond (eqb (a .pid .0) q) 1 0 ≡ usersOf q a
@@ -130,8 +131,9 @@ module _ (w : World) (h : List AcceptedCall) (l : Ledger w h) (number : ℕ) (c 
 
   old-opening : (j : ℕ) → (j ≡ p → ⊥) → j < length (s .filters) → isOpen (filterAt s j) ≡ true → openingAt (withoutFilter s p) j ≡ openingAt s j
   old-opening j n b i =
-      ap (λ (g : Filter). record { number = g .number; pid = getD (set (s .areas) a area) (g .area) freeArea .pid .0; place = j }) (old-filter j n)
-      ∙ ap (λ q. record { number = filterAt s j .number; pid = q .0; place = j }) (same-area (filterAt s j .area) used-still .0)
+      ap₂ (λ (g : Filter) (x : ℕ). record { number = g .number; pid = getD (set (s .areas) a area) (g .area) freeArea .pid .0; choice = choiceOf x; place = j }) (old-filter j n)
+      (getD-set-other (s .choices) p j 0 0 n)
+      ∙ ap (λ q. record { number = filterAt s j .number; pid = q .0; choice = choiceOf (codeAt s j); place = j }) (same-area (filterAt s j .area) used-still .0)
     where
       used-still : isUsed (getD (set (s .areas) a area) (filterAt s j .area) freeArea) ≡ true
       used-still =
@@ -228,6 +230,7 @@ module _ (w : World) (h : List AcceptedCall) (l : Ledger w h) (number : ℕ) (c 
         whole = l .whole;
         eight = length-set (s .areas) a area ∙ l .eight;
         places = length-set (s .filters) p freeFilter ∙ l .places;
+        codes = length-set (s .choices) p 0 ∙ l .codes;
         clauses = closes-clauses s number c;
         balance = balance;
         numbers = l .numbers;

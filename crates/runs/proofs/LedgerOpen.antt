@@ -19,18 +19,21 @@ use Rattle.gather.specs.declared.Marks.{Marks}
 use Rattle.state.specs.State.{isUsed, isOpen, isFree, areaStart, freePlaceOf, freeArea, freeFilter}
 use Rattle.sound.specs.Sound.{soundArea}
 use Rattle.open_call.specs.Open.{areaFor, withUser, opened as openedState}
+use Rattle.state.specs.Choice.{through, codeOf, choiceOf}
 use Rattle.state.specs.declared.Area.{Area}
+use Rattle.state.specs.declared.Choice.{Choice}
 use Rattle.state.specs.declared.Filter.{Filter}
 use Rattle.state.specs.declared.State.{State}
 use Rattle.sound.proofs.Clauses.{free-marks, open-stands}
 use Rattle.open_call.proofs.OpenStaysSound.{ForPid, own, new, for-pid, others}
+use Rattle.state.proofs.Chosen.{choice-back}
 use Rattle.state.proofs.Found.{found-area}
 use Rattle.driver.proofs.Cases.{Opens}
 use Rattle.driver.proofs.StaysSound.{opens-clauses}
 use Rattle.runs.specs.Run.{World}
 use Rattle.runs.specs.History.{OpenedFilter, AcceptedCall, opened, opens, closes, openingOf, isClosed, moreOpens, standing, areasTaken, packets, since, remembered, completed}
 use Rattle.runs.proofs.AsRun.{remembered-none, completed-none}
-use Rattle.runs.proofs.Ledger.{usersOf, areaAt, filterAt, openingAt, seatAt, IsOpen, Handed, Ledger, open-handed, handed-open, after-open, stood, busy, not-taken, still-taken, standing-long}
+use Rattle.runs.proofs.Ledger.{usersOf, areaAt, filterAt, codeAt, openingAt, seatAt, IsOpen, Handed, Ledger, open-handed, handed-open, after-open, stood, busy, not-taken, still-taken, standing-long}
 
 -- ---- the area that is taken
 -- where it is used it has the PID
@@ -63,7 +66,7 @@ free-blank : (a : Area) (store : List ℕ) (base : ℕ) → soundArea a ≡ true
 free-blank a store base e u = ap (λ (m : Marks). stateOf m store base) (free-marks a e u)
 
 -- ---- the ledger
-module _ (w : World) (h : List AcceptedCall) (l : Ledger w h) (pid : ℕ) (o : Opens (w .state) pid) where
+module _ (w : World) (h : List AcceptedCall) (l : Ledger w h) (pid : ℕ) (choice : Choice) (o : Opens (w .state) pid choice) where
   abbrev s : State
   s = w .state
 
@@ -74,7 +77,7 @@ module _ (w : World) (h : List AcceptedCall) (l : Ledger w h) (pid : ℕ) (o : O
   p = freePlaceOf (s .filters)
 
   abbrev fresh : OpenedFilter
-  fresh = record { number = s .next; pid = pid; place = p }
+  fresh = record { number = s .next; pid = pid; choice = choice; place = p }
 
   abbrev area : Area
   area = withUser pid (areaAt s a)
@@ -83,7 +86,7 @@ module _ (w : World) (h : List AcceptedCall) (l : Ledger w h) (pid : ℕ) (o : O
   filter = record { number = s .next; area = a }
 
   abbrev after : World
-  after = record { state = openedState s pid; store = w .store }
+  after = record { state = openedState s pid choice; store = w .store }
 
   owns : isUsed (areaAt s a) ≡ true → areaAt s a .pid .0 ≡ pid
   owns = owned pid (s .areas) (for-pid pid (s .areas)) (o .area)
@@ -166,23 +169,31 @@ module _ (w : World) (h : List AcceptedCall) (l : Ledger w h) (pid : ℕ) (o : O
   new-filter : getD (set (s .filters) p filter) p freeFilter ≡ filter
   new-filter = getD-set-same (s .filters) p filter freeFilter (o .place)
 
-  new-opening : openingAt (openedState s pid) p ≡ fresh
+  new-choice : choiceOf (getD (set (s .choices) p (codeOf choice)) p 0) ≡ choice
+  new-choice =
+      let long = l .codes in
+      let many = l .places in
+      let low = o .place in
+      ap choiceOf (getD-set-same (s .choices) p (codeOf choice) 0 (omega arith)) ∙ choice-back choice
+
+  new-opening : openingAt (openedState s pid choice) p ≡ fresh
   new-opening =
-      ap (λ (g : Filter). record { number = g .number; pid = getD (set (s .areas) a area) (g .area) freeArea .pid .0; place = p }) new-filter
-      ∙ ap (λ (x : Area). record { number = s .next; pid = x .pid .0; place = p }) (getD-set-same (s .areas) a area freeArea (o .area))
+      ap₂ (λ (g : Filter) (x : Choice). record { number = g .number; pid = getD (set (s .areas) a area) (g .area) freeArea .pid .0; choice = x; place = p }) new-filter new-choice
+      ∙ ap (λ (x : Area). record { number = s .next; pid = x .pid .0; choice = choice; place = p }) (getD-set-same (s .areas) a area freeArea (o .area))
 
   old-filter : (j : ℕ) → (j ≡ p → ⊥) → getD (set (s .filters) p filter) j freeFilter ≡ filterAt s j
   old-filter j n = getD-set-other (s .filters) p j filter freeFilter n
 
-  old-opening : (j : ℕ) → (j ≡ p → ⊥) → j < length (s .filters) → isOpen (filterAt s j) ≡ true → openingAt (openedState s pid) j ≡ openingAt s j
+  old-opening : (j : ℕ) → (j ≡ p → ⊥) → j < length (s .filters) → isOpen (filterAt s j) ≡ true → openingAt (openedState s pid choice) j ≡ openingAt s j
   old-opening j n b i =
-      ap (λ (g : Filter). record { number = g .number; pid = getD (set (s .areas) a area) (g .area) freeArea .pid .0; place = j }) (old-filter j n)
-      ∙ ap (λ (q : ℕ). record { number = filterAt s j .number; pid = q; place = j }) (same-pid (filterAt s j .area) (open-stands s (l .clauses) j b i))
+      ap₂ (λ (g : Filter) (x : ℕ). record { number = g .number; pid = getD (set (s .areas) a area) (g .area) freeArea .pid .0; choice = choiceOf x; place = j }) (old-filter j n)
+      (getD-set-other (s .choices) p j (codeOf choice) 0 n)
+      ∙ ap (λ (q : ℕ). record { number = filterAt s j .number; pid = q; choice = choiceOf (codeAt s j); place = j }) (same-pid (filterAt s j .area) (open-stands s (l .clauses) j b i))
 
-  known : (j : ℕ) → j < length (set (s .filters) p filter) → isOpen (getD (set (s .filters) p filter) j freeFilter) ≡ true → IsOpen (openingAt (openedState s pid) j) (opened fresh ∷ h)
+  known : (j : ℕ) → j < length (set (s .filters) p filter) → isOpen (getD (set (s .filters) p filter) j freeFilter) ≡ true → IsOpen (openingAt (openedState s pid choice) j) (opened fresh ∷ h)
   known j b i = go (ℕ-discrete j p)
     where
-      go : Dec (j ≡ p) → IsOpen (openingAt (openedState s pid) j) (opened fresh ∷ h)
+      go : Dec (j ≡ p) → IsOpen (openingAt (openedState s pid choice) j) (opened fresh ∷ h)
       go (yes e) = rw (e, new-opening) (record { opened = rw (eq-eqb (s .next) (s .next) refl); kept = unclosed })
       go (no n) =
           let inside : j < length (s .filters) = rw length-set at b in
@@ -195,17 +206,17 @@ module _ (w : World) (h : List AcceptedCall) (l : Ledger w h) (pid : ℕ) (o : O
           above : {m k : ℕ} → m ≡ k → k < m → ⊥
           above e b = omega arith
 
-  seats : (j : ℕ) → getD (set (standing h) p (there fresh)) j absent ≡ seatAt (openedState s pid) j
+  seats : (j : ℕ) → getD (set (standing h) p (there fresh)) j absent ≡ seatAt (openedState s pid choice) j
   seats j = go (ℕ-discrete j p)
     where
       open-now : isOpen filter ≡ true
       open-now = let one = l .clauses .from in ap not (ne-eqb (s .next) 0 (λ e. omega arith))
 
-      elsewhere : (j ≡ p → ⊥) → (b : Bool) → isOpen (filterAt s j) ≡ b → cond b (there (openingAt s j)) absent ≡ cond b (there (openingAt (openedState s pid) j)) absent
+      elsewhere : (j ≡ p → ⊥) → (b : Bool) → isOpen (filterAt s j) ≡ b → cond b (there (openingAt s j)) absent ≡ cond b (there (openingAt (openedState s pid choice) j)) absent
       elsewhere n true i = ap (λ (f : OpenedFilter). there f) (sym (old-opening j n (passes-inside isOpen (s .filters) j freeFilter refl i) i))
       elsewhere n false i = refl
 
-      go : Dec (j ≡ p) → getD (set (standing h) p (there fresh)) j absent ≡ seatAt (openedState s pid) j
+      go : Dec (j ≡ p) → getD (set (standing h) p (there fresh)) j absent ≡ seatAt (openedState s pid choice) j
       go (yes e) =
           let long = standing-long h in
           let many = l .places in
@@ -213,13 +224,13 @@ module _ (w : World) (h : List AcceptedCall) (l : Ledger w h) (pid : ℕ) (o : O
           ap (λ (k : ℕ). getD (set (standing h) p (there fresh)) k absent) e
           ∙ getD-set-same (standing h) p (there fresh) absent (omega arith)
           ∙ ap (λ (f : OpenedFilter). there f) (sym new-opening)
-          ∙ ap (λ (b : Bool). cond b (there (openingAt (openedState s pid) p)) absent) (sym (ap isOpen new-filter ∙ open-now))
-          ∙ ap (seatAt (openedState s pid)) (sym e)
+          ∙ ap (λ (b : Bool). cond b (there (openingAt (openedState s pid choice) p)) absent) (sym (ap isOpen new-filter ∙ open-now))
+          ∙ ap (seatAt (openedState s pid choice)) (sym e)
       go (no n) =
           getD-set-other (standing h) p j (there fresh) absent n
           ∙ l .seats j
           ∙ elsewhere n (isOpen (filterAt s j)) refl
-          ∙ ap (λ (g : Filter). cond (isOpen g) (there (openingAt (openedState s pid) j)) absent) (sym (old-filter j n))
+          ∙ ap (λ (g : Filter). cond (isOpen g) (there (openingAt (openedState s pid choice) j)) absent) (sym (old-filter j n))
 
   -- an area more is used exactly where the PID had none
   busy-areas : count isUsed (set (s .areas) a area) ≡ areasTaken h + cond (moreOpens pid h) 0 1
@@ -277,12 +288,12 @@ module _ (w : World) (h : List AcceptedCall) (l : Ledger w h) (pid : ℕ) (o : O
           let was : IsOpen f h = before f (record { opened = i; kept = k }) n in
           open-handed f (opened fresh ∷ h) k
           (rw (ne-eqb (s .next) (f .number) n)
-          (handed-open f h k (l .hands f (was .opened)) ∙ ap (completed (since f h)) (sym (still-taken w h l f fresh was))))
+          (handed-open f h k (l .hands f (was .opened)) ∙ ap (λ ps. through (f .choice) (completed (since f h) ps)) (sym (still-taken w h l f fresh was))))
 
       go : Dec (s .next ≡ f .number) → Handed f (opened fresh ∷ h)
       go (yes r) =
           open-handed f (opened fresh ∷ h) (ap (λ (n : ℕ). isClosed n h) (sym r) ∙ unclosed)
-          (rw (eq-eqb (s .next) (f .number) r) (sym (completed-none (packets (f .pid) (opened fresh ∷ h)))))
+          (rw (eq-eqb (s .next) (f .number) r) (ap (through (f .choice)) (sym (completed-none (packets (f .pid) (opened fresh ∷ h))))))
       go (no n) = old n (isClosed (f .number) h) refl
 
   pub open-ledger : Ledger after (opened fresh ∷ h)
@@ -291,7 +302,8 @@ module _ (w : World) (h : List AcceptedCall) (l : Ledger w h) (pid : ℕ) (o : O
         whole = l .whole;
         eight = length-set (s .areas) a area ∙ l .eight;
         places = length-set (s .filters) p filter ∙ l .places;
-        clauses = opens-clauses s pid o;
+        codes = length-set (s .choices) p (codeOf choice) ∙ l .codes;
+        clauses = opens-clauses s pid choice o;
         balance = balance;
         numbers = ap (λ (n : ℕ). n + 1) (l .numbers);
         given = given;

@@ -1,22 +1,21 @@
--- An accepted packet keeps the ledger: its area remembers one packet more, and the filters whose places are in the set are handed what the rule completes of it.
+-- An accepted packet keeps the ledger: its area remembers one packet more, and a filter is handed what the rule completes of it where its place is in the section's set.
 -- Assumes nothing.
 use mathlib.Core.Path.{_≡_, refl, sym, _∙_, ap, ap₂}
 use mathlib.Core.Bool.{Bool, true, false, cond, _&&_}
-use mathlib.Core.List.{List, _∷_, _++_, append-nil}
+use mathlib.Core.List.{List, [], _∷_, _++_, append-nil}
 use mathlib.Core.Logic.{_⊎_, inl, inr}
 use Prim.Native.Nat.{ℕ, _+_, _≤_, _<_}
 use native.Mathlib.Decide.{ℕ-discrete, decLt}
 use native.Mathlib.Omega.{arith}
 use borrow.Author.Tests.{eq-eqb, ne-eqb}
+use lib.Dec.{eqb}
 use lib.ListN.{length, getD, set, length-set}
 use lib.Seq.{getD-set-same, getD-set-other}
 use Rattle.ground.specs.Perhaps.{there, absent}
 use Rattle.ground.specs.Set.{isIn}
-use Rattle.ground.specs.Walk.{total, count}
-use Rattle.ground.proofs.Set.{in-set}
+use Rattle.ground.specs.Walk.{total, count, keep}
 use Rattle.ground.specs.Write.{put}
-use Rattle.ground.proofs.Test.{true-both}
-use Rattle.ground.proofs.Walk.{total-set, all-at}
+use Rattle.ground.proofs.Walk.{total-set, all-at, keep-append}
 use Rattle.ground.proofs.Write.{length-put}
 use Rattle.gather.specs.Rule.{Outcome, rule}
 use Rattle.gather.specs.Kind.{join}
@@ -24,9 +23,12 @@ use Rattle.gather.specs.Memory.{heldOf, stateOf, stretch, lastOf}
 use Rattle.gather.proofs.RuleKeeps.{rule-keeps}
 use Rattle.gather.proofs.RuleOnMemory.{sound-says}
 use Rattle.gather.proofs.Stored.{state-again, output-cut}
-use Rattle.state.specs.State.{isUsed, isOpen, standsOn, areaOf, areaStart, freeArea, freeFilter, placesOn}
+use Rattle.section.specs.Section.{tableOf}
+use Rattle.state.specs.State.{isUsed, isOpen, areaOf, areaStart, freeArea}
+use Rattle.state.specs.Choice.{lets, through, choiceOf, placesOf, placesFor}
+use Rattle.state.specs.declared.Choice.{Choice}
 use Rattle.sound.specs.Sound.{soundArea}
-use Rattle.packet_call.specs.Packet.{Said, pidOf, packetFrom, outcome, withMarks, report, putBack}
+use Rattle.packet_call.specs.Packet.{Said, pidOf, packetFrom, outcome, withMarks, report, setsFor, putBack}
 use Rattle.state.specs.declared.Area.{Area}
 use Rattle.state.specs.declared.State.{State}
 use Rattle.sound.proofs.Pids.{only-one}
@@ -35,12 +37,13 @@ use Rattle.ground.proofs.Frame.{unseen, part-apart}
 use Rattle.driver.proofs.Cases.{Handles}
 use Rattle.state.proofs.Found.{has-pid, found-area}
 use Rattle.driver.proofs.StaysSound.{held-fits, held-inside, handles-clauses}
-use Rattle.runs.specs.Run.{World}
-use Rattle.runs.specs.History.{OpenedFilter, AcceptedCall, packet, opens, closes, openingOf, isClosed, standing, areasTaken, packets, since, sectionsOf, handed, remembered, completed}
+use Rattle.runs.specs.Run.{Buffers, World}
+use Rattle.runs.specs.History.{OpenedFilter, AcceptedCall, packet, opens, closes, openingOf, isClosed, standing, areasTaken, packets, since, sectionsOf, picked, handedBy, handed, remembered, completed}
 use Rattle.runs.proofs.AsRun.{remembered-one, completed-one}
-use Rattle.runs.proofs.Ledger.{usersOf, areaAt, filterAt, openingAt, seatAt, IsOpen, Handed, Ledger, Stands, open-handed, handed-open, after-packet, stood}
+use Rattle.runs.proofs.Picked.{picked-told, in-places, keep-same, keep-none}
+use Rattle.runs.proofs.Ledger.{usersOf, areaAt, filterAt, codeAt, openingAt, seatAt, IsOpen, Handed, Ledger, Stands, open-handed, handed-open, after-packet, stood}
 
-module _ (w : World) (h : List AcceptedCall) (l : Ledger w h) (p out : List ℕ) (k : Handles (w .state) p (w .store) out) where
+module _ (w : World) (h : List AcceptedCall) (l : Ledger w h) (p : List ℕ) (lent : Buffers) (k : Handles (w .state) p (w .store) (lent .out) (lent .sets)) where
   abbrev s : State
   s = w .state
 
@@ -54,22 +57,22 @@ module _ (w : World) (h : List AcceptedCall) (l : Ledger w h) (p out : List ℕ)
   area = withMarks (areaAt s own) result
 
   abbrev said : Said
-  said = report result (placesOn own (s .filters))
+  said = report result
 
-  abbrev written : List ℕ
-  written = put out 0 (join (result .sections))
+  abbrev written : Buffers
+  written = record { out = put (lent .out) 0 (join (result .sections)); sets = put (lent .sets) 0 (setsFor own (placesOf s) (result .sections)) }
 
   abbrev after : World
-  after = record { state = putBack s own result (w .store) out .state; store = put (w .store) (areaStart own) (result .next .held) }
+  after = record { state = putBack s own result (w .store) (lent .out) (lent .sets) .state; store = put (w .store) (areaStart own) (result .next .held) }
 
   mine : (isUsed (areaAt s own) ≡ true) × (areaAt s own .pid .0 ≡ pidOf p)
   mine = found-area (pidOf p) (s .areas) (k .area)
 
   fits : length (result .next .held) ≤ 4095
-  fits = held-fits s p (w .store) out (l .eight) k
+  fits = held-fits s p (w .store) (lent .out) (lent .sets) (l .eight) k
 
   inside : areaStart own + length (result .next .held) ≤ length (w .store)
-  inside = held-inside s p (w .store) out (l .eight) k
+  inside = held-inside s p (w .store) (lent .out) (lent .sets) (l .eight) k
 
   -- what the rule went on from
   from : stateOf (areaAt s own .marks) (w .store) (areaStart own) ≡ remembered (packets (pidOf p) h)
@@ -87,9 +90,9 @@ module _ (w : World) (h : List AcceptedCall) (l : Ledger w h) (p out : List ℕ)
   -- who stands where is as before
   same-opening : (j : ℕ) → openingAt (after .state) j ≡ openingAt s j
   same-opening j =
-      ap (λ (q : ℕ). record { number = filterAt s j .number; pid = q; place = j }) (unseen (λ (a : Area). a .pid .0) (s .areas) own area freeArea (k .area) refl (filterAt s j .area))
+      ap (λ (q : ℕ). record { number = filterAt s j .number; pid = q; choice = choiceOf (codeAt s j); place = j }) (unseen (λ (a : Area). a .pid .0) (s .areas) own area freeArea (k .area) refl (filterAt s j .area))
 
-  known : (j : ℕ) → j < length (s .filters) → isOpen (filterAt s j) ≡ true → IsOpen (openingAt (after .state) j) (packet p out said written ∷ h)
+  known : (j : ℕ) → j < length (s .filters) → isOpen (filterAt s j) ≡ true → IsOpen (openingAt (after .state) j) (packet p lent said written ∷ h)
   known j b i = let was = l .known j b i in rw (same-opening j) (record { opened = was .opened; kept = was .kept })
 
   seats : (j : ℕ) → getD (standing h) j absent ≡ seatAt (after .state) j
@@ -116,10 +119,10 @@ module _ (w : World) (h : List AcceptedCall) (l : Ledger w h) (p out : List ℕ)
       go (no m) = let f = fits in inr (omega arith)
 
   remembers : (i : ℕ) → i < length (set (s .areas) own area) → isUsed (getD (set (s .areas) own area) i freeArea) ≡ true
-      → stateOf (getD (set (s .areas) own area) i freeArea .marks) (after .store) (areaStart i) ≡ remembered (packets (getD (set (s .areas) own area) i freeArea .pid .0) (packet p out said written ∷ h))
+      → stateOf (getD (set (s .areas) own area) i freeArea .marks) (after .store) (areaStart i) ≡ remembered (packets (getD (set (s .areas) own area) i freeArea .pid .0) (packet p lent said written ∷ h))
   remembers i b u = go (ℕ-discrete i own)
     where
-      go : Dec (i ≡ own) → stateOf (getD (set (s .areas) own area) i freeArea .marks) (after .store) (areaStart i) ≡ remembered (packets (getD (set (s .areas) own area) i freeArea .pid .0) (packet p out said written ∷ h))
+      go : Dec (i ≡ own) → stateOf (getD (set (s .areas) own area) i freeArea .marks) (after .store) (areaStart i) ≡ remembered (packets (getD (set (s .areas) own area) i freeArea .pid .0) (packet p lent said written ∷ h))
       go (yes e) =
           rw (e, getD-set-same (s .areas) own area freeArea (k .area), mine .1, eq-eqb (pidOf p) (pidOf p) refl)
           (state-again (result .next) (w .store) (areaStart own) inside ∙ ap (λ (x : Outcome). x .next) outcome-is ∙ sym (remembered-one (packetFrom p) (packets (pidOf p) h)))
@@ -138,41 +141,57 @@ module _ (w : World) (h : List AcceptedCall) (l : Ledger w h) (p out : List ℕ)
       let keeps = rule-keeps (stateOf (areaAt s own .marks) (w .store) (areaStart own)) (packetFrom p) (k .agrees) in
       let room = k .room in
       let most = keeps .bytes (k .short) in
-      output-cut (result .sections) out (keeps .whole) (omega arith)
+      output-cut (result .sections) (lent .out) (keeps .whole) (omega arith)
 
-  handed-more : (f : OpenedFilter) → IsOpen f h → handed f (packet p out said written ∷ h) ≡ completed (since f (packet p out said written ∷ h)) (packets (f .pid) (packet p out said written ∷ h))
+  -- of them a filter is handed those in whose sets its place is
+  handed-by : (f : OpenedFilter) → handedBy f said written ≡ keep (λ x. isIn (f .place) (placesFor own (tableOf x) (placesOf s))) (result .sections)
+  handed-by f = ap (picked (f .place) (written .sets)) sections ∙ picked-told (f .place) (λ x. placesFor own (tableOf x) (placesOf s)) (result .sections) (lent .sets)
+
+  handed-more : (f : OpenedFilter) → IsOpen f h → handed f (packet p lent said written ∷ h) ≡ through (f .choice) (completed (since f (packet p lent said written ∷ h)) (packets (f .pid) (packet p lent said written ∷ h)))
   handed-more f i = go (ℕ-discrete (filterAt s (f .place) .area) own)
     where
       st : Stands s f
       st = stood w h l f i
 
-      go : Dec (filterAt s (f .place) .area ≡ own) → handed f (packet p out said written ∷ h) ≡ completed (since f (packet p out said written ∷ h)) (packets (f .pid) (packet p out said written ∷ h))
+      -- its place is in a section's set exactly if it stands on the packet's area and lets the section through
+      bit : (b : Bool) → eqb (filterAt s (f .place) .area) own ≡ b → (x : List ℕ) → isIn (f .place) (placesFor own (tableOf x) (placesOf s)) ≡ (b && lets (f .choice) (tableOf x))
+      bit b e x =
+          in-places s own (tableOf x) (f .place) (st .inside)
+          ∙ ap₂ (λ (c : Bool) (y : Choice). (c && eqb (filterAt s (f .place) .area) own) && lets y (tableOf x)) (st .isopen) (st .choice)
+          ∙ ap (λ (c : Bool). c && lets (f .choice) (tableOf x)) e
+
+      before : handed f h ≡ through (f .choice) (completed (since f h) (packets (f .pid) h))
+      before = handed-open f h (i .kept) (l .hands f (i .opened))
+
+      go : Dec (filterAt s (f .place) .area ≡ own)
+          → handed f (packet p lent said written ∷ h) ≡ through (f .choice) (completed (since f (packet p lent said written ∷ h)) (packets (f .pid) (packet p lent said written ∷ h)))
       go (yes e) =
           let same : pidOf p ≡ f .pid = sym (mine .1) ∙ ap (λ (j : ℕ). areaAt s j .pid .0) (sym e) ∙ st .pid in
-          let bit : isIn (f .place) (said .places) ≡ true = in-set (standsOn own) (s .filters) (f .place) freeFilter refl ∙ true-both (isOpen (filterAt s (f .place))) _ (st .isopen) (eq-eqb (filterAt s (f .place) .area) own e) in
-          rw (i .kept, bit, eq-eqb (pidOf p) (f .pid) same)
-          (ap₂ (λ (x y : List (List ℕ)). x ++ y) (handed-open f h (i .kept) (l .hands f (i .opened))) (sections ∙ ap (λ (x : Outcome). x .sections) outcome-is ∙ ap (λ (q : ℕ). rule (remembered (packets q h)) (packetFrom p) .sections) same)
-          ∙ sym (completed-one (since f h) (packetFrom p) (packets (f .pid) h)))
+          let done = ap (λ (x : Outcome). x .sections) outcome-is ∙ ap (λ (q : ℕ). rule (remembered (packets q h)) (packetFrom p) .sections) same in
+          rw (i .kept, eq-eqb (pidOf p) (f .pid) same)
+          (ap₂ (λ (x y : List (List ℕ)). x ++ y) before (handed-by f ∙ keep-same (bit true (eq-eqb (filterAt s (f .place) .area) own e)) (result .sections) ∙ ap (through (f .choice)) done)
+          ∙ sym (keep-append (λ x. lets (f .choice) (tableOf x)) (completed (since f h) (packets (f .pid) h)) _)
+          ∙ ap (through (f .choice)) (sym (completed-one (since f h) (packetFrom p) (packets (f .pid) h))))
       go (no n) =
           let other : pidOf p ≡ f .pid → ⊥ = λ e. n (own-only (filterAt s (f .place) .area) (st .area) (st .used) (e ∙ sym (st .pid))) in
-          let bit : isIn (f .place) (said .places) ≡ false =
-          in-set (standsOn own) (s .filters) (f .place) freeFilter refl ∙ ap₂ (λ (b c : Bool). b && c) (st .isopen) (ne-eqb (filterAt s (f .place) .area) own n) in
-          rw (i .kept, bit, ne-eqb (pidOf p) (f .pid) other, append-nil) (handed-open f h (i .kept) (l .hands f (i .opened)))
+          let none : handedBy f said written ≡ [] = handed-by f ∙ keep-same (bit false (ne-eqb (filterAt s (f .place) .area) own n)) (result .sections) ∙ keep-none (result .sections) in
+          rw (i .kept, ne-eqb (pidOf p) (f .pid) other) (ap (λ (x : List (List ℕ)). handed f h ++ x) none ∙ append-nil (handed f h) ∙ before)
 
-  hands : (f : OpenedFilter) → openingOf (f .number) h ≡ there f → Handed f (packet p out said written ∷ h)
+  hands : (f : OpenedFilter) → openingOf (f .number) h ≡ there f → Handed f (packet p lent said written ∷ h)
   hands f i = go (isClosed (f .number) h) refl
     where
-      go : (b : Bool) → isClosed (f .number) h ≡ b → Handed f (packet p out said written ∷ h)
-      go true e = after-packet f h e (l .hands f i) p out said written
-      go false e = open-handed f (packet p out said written ∷ h) e (handed-more f (record { opened = i; kept = e }))
+      go : (b : Bool) → isClosed (f .number) h ≡ b → Handed f (packet p lent said written ∷ h)
+      go true e = after-packet f h e (l .hands f i) p lent said written
+      go false e = open-handed f (packet p lent said written ∷ h) e (handed-more f (record { opened = i; kept = e }))
 
-  pub packet-ledger : Ledger after (packet p out said written ∷ h)
+  pub packet-ledger : Ledger after (packet p lent said written ∷ h)
   packet-ledger =
       record {
         whole = length-put (w .store) (areaStart own) (result .next .held) inside ∙ l .whole;
         eight = length-set (s .areas) own area ∙ l .eight;
         places = l .places;
-        clauses = handles-clauses s p (w .store) out (l .eight) k;
+        clauses = handles-clauses s p (w .store) (lent .out) (lent .sets) (l .eight) k;
+        codes = l .codes;
         balance = balance;
         numbers = l .numbers;
         given = l .given;
@@ -186,5 +205,5 @@ module _ (w : World) (h : List AcceptedCall) (l : Ledger w h) (p out : List ℕ)
         hands = hands;
       }
     where
-      before : (f : OpenedFilter) → IsOpen f (packet p out said written ∷ h) → IsOpen f h
+      before : (f : OpenedFilter) → IsOpen f (packet p lent said written ∷ h) → IsOpen f h
       before f i = record { opened = i .opened; kept = i .kept }

@@ -1,6 +1,7 @@
 pub mod Examples
 pub mod AsRun
 pub mod Ledger
+pub mod Picked
 pub mod LedgerOpen
 pub mod LedgerClose
 pub mod LedgerPacket

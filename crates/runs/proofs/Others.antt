@@ -139,21 +139,21 @@ thin-up pid n (packet p lent r out ∷ h) = go (isClosed n h) refl (eqb (pidOf p
 -- ---- answers
 -- a call that is no packet of another PID is answered the same
 thin-answer : (pid : ℕ) (h : List AcceptedCall) (c : Call) → concerns pid c ≡ true → answerTo (thin pid h) c ≡ answerTo h c
-thin-answer pid h (openCall q) e =
+thin-answer pid h (openCall q choice) e =
     rw (thin-numbers pid h, thin-standing pid h, thin-area pid q h, thin-taken pid h)
 thin-answer pid h (closeCall number) e = rw (thin-opening pid number h, thin-closed pid number h)
 thin-answer pid h (packetCall p lent) e = rw (eqb-true (pidOf p) pid e, thin-area pid pid h, thin-packets pid h, thin-standing pid h)
 
 question-is : (w : World) (c : Call) → questionOf (event ours w c) ≡ c
-question-is w (openCall pid) = refl
+question-is w (openCall pid choice) = refl
 question-is w (closeCall number) = refl
 question-is w (packetCall p lent) = refl
 
 -- what a log accepted, without the packets of other PIDs
 pub accepted-thin : (pid : ℕ) (log : List Event) → accepted (keep (λ e. concerns pid (questionOf e)) log) ≡ thin pid (accepted log)
 accepted-thin pid [] = refl
-accepted-thin pid (openEvent q (given a) ∷ log) = ap (λ (h : List AcceptedCall). opened (record { number = a .number; pid = q; place = a .place }) ∷ h) (accepted-thin pid log)
-accepted-thin pid (openEvent q (refused n) ∷ log) = accepted-thin pid log
+accepted-thin pid (openEvent q choice (given a) ∷ log) = ap (λ (h : List AcceptedCall). opened (record { number = a .number; pid = q; choice = choice; place = a .place }) ∷ h) (accepted-thin pid log)
+accepted-thin pid (openEvent q choice (refused n) ∷ log) = accepted-thin pid log
 accepted-thin pid (closeEvent number (given u) ∷ log) = ap (λ (h : List AcceptedCall). closed number ∷ h) (accepted-thin pid log)
 accepted-thin pid (closeEvent number (refused n) ∷ log) = accepted-thin pid log
 accepted-thin pid (packetEvent p lent (given r) out ∷ log) = go (eqb (pidOf p) pid) refl (r .wanted) refl (accepted-thin pid log)

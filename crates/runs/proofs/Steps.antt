@@ -44,6 +44,7 @@ fresh-ledger store e =
       whole = e;
       eight = refl;
       places = refl;
+      codes = refl;
       clauses = sound-tells fresh fresh-sound;
       balance = λ pid. refl;
       numbers = refl;
@@ -60,15 +61,16 @@ fresh-ledger store e =
 
 module _ (w : World) (h : List AcceptedCall) (l : Ledger w h) where
   pub step-ledger : (c : Call) → Ledger (after ours w c) (acceptedBy (event ours w c) ++ h)
-  step-ledger (openCall pid) =
-      open-ind (w .state) pid (λ o. Ledger (record { state = o .state; store = w .store }) (acceptedBy (openEvent pid (o .answer)) ++ h))
-      (λ n a b. l) (open-ledger w h l pid)
+  step-ledger (openCall pid choice) =
+      open-ind (w .state) pid choice (λ o. Ledger (record { state = o .state; store = w .store }) (acceptedBy (openEvent pid choice (o .answer)) ++ h))
+      (λ n a b. l) (open-ledger w h l pid choice)
   step-ledger (closeCall number) =
       close-ind (w .state) number (λ o. Ledger (record { state = o .state; store = w .store }) (acceptedBy (closeEvent number (o .answer)) ++ h))
       (λ n a b. l) (close-ledger w h l number)
-  step-ledger (packetCall p out) =
-      packet-ind (w .state) p (w .store) out (λ o. Ledger (record { state = o .state; store = o .store }) (acceptedBy (packetEvent p out (o .answer) (o .out)) ++ h))
-      (λ n a b. l) (λ b. l) (packet-ledger w h l p out)
+  step-ledger (packetCall p lent) =
+      packet-ind (w .state) p (w .store) (lent .out) (lent .sets)
+      (λ o. Ledger (record { state = o .state; store = o .store }) (acceptedBy (packetEvent p lent (o .answer) (record { out = o .out; sets = o .sets })) ++ h))
+      (λ n a b. l) (λ b. l) (packet-ledger w h l p lent)
 
   pub fine : sound (w .state) ≡ true
   fine = sound-says (w .state) (l .clauses)
@@ -85,15 +87,15 @@ module _ (w : World) (h : List AcceptedCall) (l : Ledger w h) where
   not-one n a = ne-eqb n 1 (λ e. false≢true (sym (a e) ∙ fine))
 
   pub step-quiet : (c : Call) → (isRefused 1 (event ours w c) ≡ false) × (isRefused 9 (event ours w c) ≡ false)
-  step-quiet (openCall pid) =
-      open-ind (w .state) pid (λ o. (isRefused 1 (openEvent pid (o .answer)) ≡ false) × (isRefused 9 (openEvent pid (o .answer)) ≡ false))
+  step-quiet (openCall pid choice) =
+      open-ind (w .state) pid choice (λ o. (isRefused 1 (openEvent pid choice (o .answer)) ≡ false) × (isRefused 9 (openEvent pid choice (o .answer)) ≡ false))
       (λ n a b. (not-one n a, ne-eqb n 9 b)) (λ o. (refl, refl))
   step-quiet (closeCall number) =
       close-ind (w .state) number (λ o. (isRefused 1 (closeEvent number (o .answer)) ≡ false) × (isRefused 9 (closeEvent number (o .answer)) ≡ false))
       (λ n a b. (not-one n a, ne-eqb n 9 b)) (λ o. (refl, refl))
-  step-quiet (packetCall p out) =
-      packet-ind (w .state) p (w .store) out
-      (λ o. (isRefused 1 (packetEvent p out (o .answer) (o .out)) ≡ false) × (isRefused 9 (packetEvent p out (o .answer) (o .out)) ≡ false))
+  step-quiet (packetCall p lent) =
+      packet-ind (w .state) p (w .store) (lent .out) (lent .sets)
+      (λ o. (isRefused 1 (packetEvent p lent (o .answer) (record { out = o .out; sets = o .sets })) ≡ false) × (isRefused 9 (packetEvent p lent (o .answer) (record { out = o .out; sets = o .sets })) ≡ false))
       (λ n a b. (not-one n a, ne-eqb n 9 (λ e. false≢true (sym (agrees (pidOf p) (b e .0)) ∙ b e .1)))) (λ b. (refl, refl)) (λ o. (refl, refl))
 
 module _ (store : List ℕ) (whole : length store ≡ 32768) where

@@ -3,7 +3,7 @@ use mathlib.Core.Bool.{Bool, true, false, cond, not, _&&_, _||_}
 use mathlib.Core.List.{List, [], _∷_, _++_, map, reverse}
 use Prim.Native.Nat.{ℕ, suc, _+_, _-_}
 use lib.Dec.{eqb, ltb}
-use lib.ListN.{take, drop, set, replicate}
+use lib.ListN.{getD, take, drop, set, replicate}
 use Rattle.ground.specs.Answer.{refused, given}
 use Rattle.ground.specs.Perhaps.{Perhaps, there, absent}
 use Rattle.ground.specs.Set.{isIn}
@@ -11,25 +11,28 @@ use Rattle.gather.specs.Rule.{State, Packet, blank}
 use Rattle.gather.specs.Run.{run}
 use Rattle.gather.specs.Kind.{cut}
 use Rattle.packet_call.specs.Packet.{Said, pidOf, packetFrom}
-use Rattle.runs.specs.Run.{Event, openEvent, closeEvent, packetEvent}
+use Rattle.state.specs.Choice.{lets}
+use Rattle.state.specs.declared.Choice.{Choice}
+use Rattle.runs.specs.Run.{Buffers, Event, openEvent, closeEvent, packetEvent}
 
 -- ---- what was accepted
--- an accepted open: the PID asked for, and the number and the place answered
+-- an accepted open: the PID and the choice asked for, and the number and the place answered
 pub record OpenedFilter : Type 0 where
   pub number : ℕ
   pub pid : ℕ
+  pub choice : Choice
   pub place : ℕ
 
--- an accepted call with its answer: of a packet its bytes and the output lent for it, what was said, and the output after it
+-- an accepted call with its answer: of a packet its bytes and the buffers lent for it, what was said, and the buffers after it
 pub data AcceptedCall : Type 0 where
   opened : OpenedFilter → AcceptedCall
   closed : ℕ → AcceptedCall
-  packet : List ℕ → List ℕ → Said → List ℕ → AcceptedCall
+  packet : List ℕ → Buffers → Said → Buffers → AcceptedCall
 
 -- what an event accepted: a refused call and a packet that is not wanted are nothing
 abbrev pub acceptedBy : Event → List AcceptedCall
-acceptedBy (openEvent pid (given a)) = opened (record { number = a .number; pid = pid; place = a .place }) ∷ []
-acceptedBy (openEvent pid (refused n)) = []
+acceptedBy (openEvent pid choice (given a)) = opened (record { number = a .number; pid = pid; choice = choice; place = a .place }) ∷ []
+acceptedBy (openEvent pid choice (refused n)) = []
 acceptedBy (closeEvent number (given u)) = closed number ∷ []
 acceptedBy (closeEvent number (refused n)) = []
 acceptedBy (packetEvent p lent (given r) out) = cond (r .wanted) (packet p lent r out ∷ []) []
@@ -37,8 +40,8 @@ acceptedBy (packetEvent p lent (refused n) out) = []
 
 -- whether it accepted anything
 abbrev pub isAccepted : Event → Bool
-isAccepted (openEvent pid (given a)) = true
-isAccepted (openEvent pid (refused n)) = false
+isAccepted (openEvent pid choice (given a)) = true
+isAccepted (openEvent pid choice (refused n)) = false
 isAccepted (closeEvent number (given u)) = true
 isAccepted (closeEvent number (refused n)) = false
 isAccepted (packetEvent p lent (given r) out) = r .wanted
@@ -51,8 +54,8 @@ accepted (e ∷ log) = acceptedBy e ++ accepted log
 
 -- an event is refused with this number
 abbrev pub isRefused : ℕ → Event → Bool
-isRefused m (openEvent pid (given a)) = false
-isRefused m (openEvent pid (refused n)) = eqb n m
+isRefused m (openEvent pid choice (given a)) = false
+isRefused m (openEvent pid choice (refused n)) = eqb n m
 isRefused m (closeEvent number (given u)) = false
 isRefused m (closeEvent number (refused n)) = eqb n m
 isRefused m (packetEvent p lent (given r) out) = false
@@ -84,6 +87,11 @@ openingOf number (packet p lent r out ∷ h) = openingOf number h
 abbrev pub isOn : ℕ → Perhaps OpenedFilter → Bool
 isOn pid absent = false
 isOn pid (there f) = eqb (f .pid) pid
+
+-- and its choice lets this table_id through
+abbrev pub isOnFor : ℕ → ℕ → Perhaps OpenedFilter → Bool
+isOnFor pid table absent = false
+isOnFor pid table (there f) = eqb (f .pid) pid && lets (f .choice) table
 
 -- how many closes of a PID were accepted: a close names a number, and the PID is that of the open that gave it
 abbrev pub closes : ℕ → List AcceptedCall → ℕ
@@ -159,12 +167,17 @@ upToClose number (packet p lent r out ∷ h) = cond (isClosed number h) (upToClo
 
 -- ---- what a filter was handed
 -- the sections that stand in as many output bytes as the answer says
-abbrev pub sectionsOf : Said → List ℕ → List (List ℕ)
-sectionsOf r out = cut (take (r .bytes) out)
+abbrev pub sectionsOf : Said → Buffers → List (List ℕ)
+sectionsOf r after = cut (take (r .bytes) (after .out))
 
--- what one packet handed to a filter: those sections, where the answer's set has its place
-abbrev pub handedBy : OpenedFilter → Said → List ℕ → List (List ℕ)
-handedBy f r out = cond (isIn (f .place) (r .places)) (sectionsOf r out) []
+-- of some sections those whose set, at the same index of the list, has a place
+abbrev pub picked : ℕ → List ℕ → List (List ℕ) → List (List ℕ)
+picked place sets [] = []
+picked place sets (s ∷ sections) = cond (isIn place (getD sets 0 0)) (s ∷ picked place (drop 1 sets) sections) (picked place (drop 1 sets) sections)
+
+-- what one packet handed to a filter: of the sections in the output those whose set has its place
+abbrev pub handedBy : OpenedFilter → Said → Buffers → List (List ℕ)
+handedBy f r after = picked (f .place) (after .sets) (sectionsOf r after)
 
 -- what a filter was handed by the accepted packets from its open to its close, in order
 abbrev pub handed : OpenedFilter → List AcceptedCall → List (List ℕ)

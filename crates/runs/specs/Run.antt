@@ -6,47 +6,53 @@ use Rattle.state.specs.State.{fresh}
 use Rattle.open_call.specs.Open.{Place, AfterOpen, openOf}
 use Rattle.close_call.specs.Close.{AfterClose, closeOf}
 use Rattle.packet_call.specs.Packet.{Said, AfterPacket, packetOf}
+use Rattle.state.specs.declared.Choice.{Choice}
 use Rattle.state.specs.declared.State.{State}
 
 -- a driver, by what its three calls leave. The demand is stated of any, so that a wrong one can be held to it
 pub record Driver : Type 0 where
-  pub onOpen : State → ℕ → AfterOpen
+  pub onOpen : State → ℕ → Choice → AfterOpen
   pub onClose : State → ℕ → AfterClose
-  pub onPacket : State → List ℕ → List ℕ → List ℕ → AfterPacket
+  pub onPacket : State → List ℕ → List ℕ → List ℕ → List ℕ → AfterPacket
 
 -- ours, by the definitions that its calls promise to meet
 abbrev pub ours : Driver
 ours = record { onOpen = openOf; onClose = closeOf; onPacket = packetOf }
 
--- a call: an open of a PID, a close of a number, or a packet with the output buffer that is lent for it; any values, for refused calls are calls
+-- what is lent for a packet: the output, and the list for the sets
+pub record Buffers : Type 0 where
+  pub out : List ℕ
+  pub sets : List ℕ
+
+-- a call: an open of a PID with a choice, a close of a number, or a packet with the buffers that are lent for it; any values, for refused calls are calls
 pub data Call : Type 0 where
-  openCall : ℕ → Call
+  openCall : ℕ → Choice → Call
   closeCall : ℕ → Call
-  packetCall : List ℕ → List ℕ → Call
+  packetCall : List ℕ → Buffers → Call
 
 -- what one call leaves to the next: the state and the store
 pub record World : Type 0 where
   pub state : State
   pub store : List ℕ
 
--- the whole question with the whole answer; for a packet also every byte of the output after it
+-- the whole question with the whole answer; for a packet also every byte of the output and every place of the list after it
 pub data Event : Type 0 where
-  openEvent : ℕ → Answer Place → Event
+  openEvent : ℕ → Choice → Answer Place → Event
   closeEvent : ℕ → Answer (Unit {0}) → Event
-  packetEvent : List ℕ → List ℕ → Answer Said → List ℕ → Event
+  packetEvent : List ℕ → Buffers → Answer Said → Buffers → Event
 
 module _ (d : Driver) where
   -- the world after a call
   abbrev pub after : World → Call → World
-  after w (openCall pid) = record { state = d .onOpen (w .state) pid .state; store = w .store }
+  after w (openCall pid choice) = record { state = d .onOpen (w .state) pid choice .state; store = w .store }
   after w (closeCall number) = record { state = d .onClose (w .state) number .state; store = w .store }
-  after w (packetCall p lent) = record { state = d .onPacket (w .state) p (w .store) lent .state; store = d .onPacket (w .state) p (w .store) lent .store }
+  after w (packetCall p lent) = let a = d .onPacket (w .state) p (w .store) (lent .out) (lent .sets) in record { state = a .state; store = a .store }
 
   -- the event of a call
   abbrev pub event : World → Call → Event
-  event w (openCall pid) = openEvent pid (d .onOpen (w .state) pid .answer)
+  event w (openCall pid choice) = openEvent pid choice (d .onOpen (w .state) pid choice .answer)
   event w (closeCall number) = closeEvent number (d .onClose (w .state) number .answer)
-  event w (packetCall p lent) = packetEvent p lent (d .onPacket (w .state) p (w .store) lent .answer) (d .onPacket (w .state) p (w .store) lent .out)
+  event w (packetCall p lent) = let a = d .onPacket (w .state) p (w .store) (lent .out) (lent .sets) in packetEvent p lent (a .answer) (record { out = a .out; sets = a .sets })
 
   -- calls and logs stand last first: `c ∷ cs` is "run cs, then c"
   abbrev pub runFrom : World → List Call → World
