@@ -7,16 +7,19 @@ use Prim.Native.Nat.{ℕ, _+_, _≤_}
 use lib.ListN.{length, getD}
 use Rattle.ground.specs.House.{areaBytes, leastOutput}
 use Rattle.ground.specs.Answer.{given}
+use Rattle.ground.specs.Walk.{all}
 use Rattle.packet.specs.Payload.{payloadOf}
 use Rattle.gather.specs.Sum.{AddsUp}
 use Rattle.gather.specs.Memory.{stretch}
 use Rattle.state.specs.State.{areaStart, areaOf, freeArea, fresh}
+use Rattle.state.specs.Choice.{Placed, placesOf, placesFor}
 use Rattle.state.specs.declared.Choice.{Choice}
 use Rattle.state.specs.declared.State.{State}
 use Rattle.sound.specs.Sound.{sound}
 use Rattle.open_call.specs.Open.{openOf}
 use Rattle.close_call.specs.Close.{closeOf}
-use Rattle.packet_call.specs.Packet.{Said, AfterPacket, pidOf, heldIn, packetOf}
+use Rattle.packet_call.specs.Packet.{Said, AfterPacket, pidOf, heldIn, outcome, packetOf}
+use Rattle.driver.specs.Choices.{Listed, placesOn, isAllOn, withAll, Alike}
 
 -- nothing but area i of the state and of the store has changed
 pub record OnlyArea (i : ℕ) (s : State) (store : List ℕ) (o : AfterPacket) : Type 0 where
@@ -50,6 +53,14 @@ pub record Claims : Type 0 where
   pub accounted : (s : State) (p store out sets : List ℕ) → length (s .areas) ≡ 8 → (r : Said) → packetOf s p store out sets .answer ≡ given r
       → let i = areaOf (pidOf p) (s .areas) in
       Accounted p r (heldIn i s) (heldIn i (packetOf s p store out sets .state))
+  -- of each accepted packet: the list has exactly one set for each section, and behind them what was lent
+  pub listed : (s : State) (p store out sets : List ℕ) (r : Said) → packetOf s p store out sets .answer ≡ given r → r .wanted ≡ true
+      → let i = areaOf (pidOf p) (s .areas) in
+      Listed i (placesOf s) (outcome s i p store .sections) r sets (packetOf s p store out sets .sets)
+  -- where every filter on an area chose all, each section's set is the joined set of document 01
+  pub joined : (i : ℕ) (places : List Placed) → all (isAllOn i) places ≡ true → (table : ℕ) → placesFor i table places ≡ placesOn i places
+  -- a choice is nobody else's business: with every choice all a packet call of a sound state has the same answer, store and output and leaves the same state but for choices, and no set loses a place
+  pub nobodyElse : (s : State) (p store out sets : List ℕ) → sound s ≡ true → Alike (packetOf s p store out sets) (packetOf (withAll s) p store out sets)
   -- a fresh state is sound, and a call leaves a sound state sound
   pub soundFresh : sound fresh ≡ true
   pub soundOpen : (s : State) (pid : ℕ) (choice : Choice) → sound s ≡ true → sound (openOf s pid choice .state) ≡ true

@@ -1,2 +1,3 @@
+pub mod Choices
 pub mod Claims
 pub mod Stars

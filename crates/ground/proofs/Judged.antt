@@ -88,6 +88,15 @@ judge-seen see refuse (row ∷ rows) answer = go (row .applies) (judge-seen see 
     go true e = refl
     go false e = e
 
+-- two verdicts by one table are related where all that they give is
+pub judge-both {ℓ} : {A : Type ℓ} (R : A → A → Type 0) (f g : ℕ → A) → ((n : ℕ) → R (f n) (g n)) → (rows : List Row) (x y : A) → R x y → R (judge f rows x) (judge g rows y)
+judge-both R f g each [] x y r = r
+judge-both R f g each (row ∷ rows) x y r = go (row .applies) (judge-both R f g each rows x y r)
+  where
+    go : (b : Bool) → R (judge f rows x) (judge g rows y) → R (cond b (f (row .number)) (judge f rows x)) (cond b (g (row .number)) (judge g rows y))
+    go true q = each (row .number)
+    go false q = q
+
 -- a table that goes on in another
 pub judge-append {ℓ} : {A : Type ℓ} (refuse : ℕ → A) (rows later : List Row) (answer : A)
     → judge refuse (rows ++ later) answer ≡ judge refuse rows (judge refuse later answer)

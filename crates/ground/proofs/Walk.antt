@@ -277,7 +277,7 @@ pub find-tests {ℓ} : {A : Type ℓ} (p : A → Bool) (l : List A) → find p l
 find-tests p [] = refl
 find-tests p (x ∷ xs) = ap (λ (n : ℕ). cond (p x) 0 (suc n)) (find-tests p xs)
 
-leb-suc : (a b : ℕ) → leb (suc a) (suc b) ≡ leb a b
+pub leb-suc : (a b : ℕ) → leb (suc a) (suc b) ≡ leb a b
 leb-suc a b = go (decLe a b)
   where
     go : Dec (a ≤ b) → leb (suc a) (suc b) ≡ leb a b
@@ -332,6 +332,15 @@ module _ {ℓ} {A : Type ℓ} (p : A → Bool) where
       go : (c : Bool) → keep p (xs ++ b) ≡ keep p xs ++ keep p b → cond c (x ∷ keep p (xs ++ b)) (keep p (xs ++ b)) ≡ cond c (x ∷ keep p xs) (keep p xs) ++ keep p b
       go true e = ap (λ (l : List A). x ∷ l) e
       go false e = e
+
+-- of a list none is kept, or all
+pub keep-none {ℓ} : {A : Type ℓ} (l : List A) → keep (λ x. false) l ≡ []
+keep-none [] = refl
+keep-none (x ∷ xs) = keep-none xs
+
+pub keep-all {ℓ} : {A : Type ℓ} (l : List A) → keep (λ x. true) l ≡ l
+keep-all [] = refl
+keep-all (x ∷ xs) = ap (λ (l : List _). x ∷ l) (keep-all xs)
 
 -- what is kept by a test is kept by every weaker one
 pub keep-kept {ℓ} : {A : Type ℓ} (p q : A → Bool) → ((x : A) → q x ≡ true → p x ≡ true) → (l : List A) → keep p (keep q l) ≡ keep q l

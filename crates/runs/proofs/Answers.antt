@@ -1,6 +1,6 @@
 -- Every call is answered by what was accepted before it: each test of the state is one of the history, by the ledger.
 -- Assumes nothing.
-use mathlib.Core.Path.{_≡_, refl, sym, _∙_, ap, ap₂}
+use mathlib.Core.Path.{_≡_, refl, sym, _∙_, ap, ap₂, fun-ext}
 use mathlib.Core.Bool.{Bool, true, false, cond, not, _&&_, _||_, false≢true}
 use mathlib.Core.List.{List, [], _∷_, _++_, map}
 use Prim.Native.Nat.{ℕ, _+_, _≤_, _<_}
@@ -44,9 +44,9 @@ use Rattle.runs.specs.Answers.{isAbsent, lowestFree, openAnswer, isGiven
 use Rattle.runs.proofs.Ledger.{areaAt, filterAt, codeAt, openingAt, seatAt, Ledger, stood, held-area, single, standing-long}
 use Rattle.runs.proofs.Steps.{fine, agrees}
 
+-- two maps that are the same map the same
 pub map-same : {f g : List ℕ → ℕ} → ((x : List ℕ) → f x ≡ g x) → (l : List (List ℕ)) → map f l ≡ map g l
-map-same each [] = refl
-map-same each (x ∷ l) = ap₂ (λ (n : ℕ) (rest : List ℕ). n ∷ rest) (each x) (map-same each l)
+map-same each l = ap (λ (f : List ℕ → ℕ). map f l) (fun-ext each)
 
 -- ---- tests of numbers
 above-next : (a n : ℕ) → ltb a (n + 1) ≡ leb a n

@@ -2,9 +2,8 @@
 -- Assumes nothing.
 use mathlib.Core.Path.{_≡_, refl, sym, _∙_, ap, ap₂}
 use mathlib.Core.Bool.{true, not, false≢true}
-use mathlib.Core.List.{List, [], _∷_, map}
-use Prim.Native.Nat.{ℕ, zero, suc, _≤_, _<_}
-use native.Mathlib.Nat.{not-suc-le-zero, le-of-suc-le-suc}
+use mathlib.Core.List.{List, [], map}
+use Prim.Native.Nat.{ℕ, _≤_, _<_}
 use native.Mathlib.Omega.{arith}
 use borrow.Author.Tests.{ltb-true}
 use lib.ListN.{length, getD, length-map}
@@ -14,6 +13,7 @@ use Rattle.ground.specs.Perhaps.{absent}
 use Rattle.ground.specs.Write.{put, Rest}
 use Rattle.ground.proofs.Set.{in-set}
 use Rattle.ground.proofs.Test.{and-false}
+use Rattle.ground.proofs.Walk.{map-at}
 use Rattle.ground.proofs.Write.{put-item, put-rest}
 use Rattle.gather.specs.Rule.{Outcome}
 use Rattle.gather.specs.Kind.{join}
@@ -39,11 +39,6 @@ use Rattle.runs.proofs.Answers.{answers, map-same, places-are, outcome-
 use Rattle.runs.proofs.Others.{others}
 use Rattle.runs.proofs.Alone.{alone}
 use Rattle.runs.proofs.Idle.{still, idle-world, idle-log}
-
-map-at : (f : List ℕ → ℕ) (l : List (List ℕ)) (k : ℕ) → k < length l → getD (map f l) k 0 ≡ f (getD l k [])
-map-at f [] k b = absurd (not-suc-le-zero b)
-map-at f (x ∷ l) zero b = refl
-map-at f (x ∷ l) (suc k) b = map-at f l k (le-of-suc-le-suc b)
 
 module _ (w : World) (h : List AcceptedCall) (l : Ledger w h) where
   abbrev s : State
@@ -126,7 +121,7 @@ module _ (w : World) (h : List AcceptedCall) (l : Ledger w h) where
 
       each : (k : ℕ) → k < length ss → (place : ℕ) → isIn place (getD (put (lent .sets) 0 (map set-of ss)) k 0) ≡ isOpenFor (pidOf p) (tableOf (getD ss k [])) place h
       each k b place =
-          ap (isIn place) (put-item (lent .sets) (map set-of ss) room k 0 (rw long b) ∙ map-at set-of ss k b)
+          ap (isIn place) (put-item (lent .sets) (map set-of ss) room k 0 (rw long b) ∙ map-at set-of ss k [] 0 b)
           ∙ in-set (isOnFor (pidOf p) (tableOf (getD ss k []))) (standing h) place absent refl
 
       rest : Rest (length ss) (lent .sets) (put (lent .sets) 0 (map set-of ss))

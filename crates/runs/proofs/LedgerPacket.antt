@@ -15,7 +15,7 @@ use Rattle.ground.specs.Perhaps.{there, absent}
 use Rattle.ground.specs.Set.{isIn}
 use Rattle.ground.specs.Walk.{total, count, keep}
 use Rattle.ground.specs.Write.{put}
-use Rattle.ground.proofs.Walk.{total-set, all-at, keep-append}
+use Rattle.ground.proofs.Walk.{total-set, all-at, keep-append, keep-none}
 use Rattle.ground.proofs.Write.{length-put}
 use Rattle.gather.specs.Rule.{Outcome, rule}
 use Rattle.gather.specs.Kind.{join}
@@ -40,7 +40,7 @@ use Rattle.driver.proofs.StaysSound.{held-fits, held-inside, handles-clauses}
 use Rattle.runs.specs.Run.{Buffers, World}
 use Rattle.runs.specs.History.{OpenedFilter, AcceptedCall, packet, opens, closes, openingOf, isClosed, standing, areasTaken, packets, since, sectionsOf, picked, handedBy, handed, remembered, completed}
 use Rattle.runs.proofs.AsRun.{remembered-one, completed-one}
-use Rattle.runs.proofs.Picked.{picked-told, in-places, keep-same, keep-none}
+use Rattle.runs.proofs.Picked.{picked-told, in-places, keep-same}
 use Rattle.runs.proofs.Ledger.{usersOf, areaAt, filterAt, codeAt, openingAt, seatAt, IsOpen, Handed, Ledger, Stands, open-handed, handed-open, after-packet, stood}
 
 module _ (w : World) (h : List AcceptedCall) (l : Ledger w h) (p : List ℕ) (lent : Buffers) (k : Handles (w .state) p (w .store) (lent .out) (lent .sets)) where

@@ -13,4 +13,5 @@ pub mod Idle
 pub mod InOrder
 pub mod Demand
 pub mod Accounts
+pub mod Choices
 pub mod Wrong

@@ -1,7 +1,7 @@
 -- The sections that a filter is handed by their sets are those that it lets through.
 -- Assumes nothing.
-use mathlib.Core.Path.{_≡_, refl, sym, _∙_, ap, ap₂}
-use mathlib.Core.Bool.{Bool, true, false, cond, _&&_}
+use mathlib.Core.Path.{_≡_, refl, _∙_, ap, fun-ext}
+use mathlib.Core.Bool.{Bool, cond, _&&_}
 use mathlib.Core.List.{List, [], _∷_, _++_, map}
 use Prim.Native.Nat.{ℕ, _+_, _<_}
 use lib.ListN.{length, drop}
@@ -10,25 +10,15 @@ use Rattle.ground.specs.Walk.{keep}
 use Rattle.ground.specs.Write.{put}
 use Rattle.ground.proofs.Set.{in-set}
 use Rattle.state.specs.State.{standsOn}
-use Rattle.state.specs.Choice.{lets, choiceOf, Placed, placesOf, freePlace, isFor, placesFor}
+use Rattle.state.specs.Choice.{lets, choiceOf, placesOf, freePlace, isFor, placesFor}
 use Rattle.state.specs.declared.State.{State}
 use Rattle.state.proofs.Chosen.{placed-at}
 use Rattle.runs.specs.History.{picked}
 use Rattle.runs.proofs.Ledger.{filterAt, codeAt}
 
-module _ {A : Type 0} where
-  -- two tests that are the same keep the same
-  pub keep-same : {p q : A → Bool} → ((x : A) → p x ≡ q x) → (l : List A) → keep p l ≡ keep q l
-  keep-same each [] = refl
-  keep-same each (x ∷ l) = ap₂ (λ (b : Bool) (rest : List A). cond b (x ∷ rest) rest) (each x) (keep-same each l)
-
-  pub keep-none : (l : List A) → keep (λ x. false) l ≡ []
-  keep-none [] = refl
-  keep-none (x ∷ l) = keep-none l
-
-  pub keep-all : (l : List A) → keep (λ x. true) l ≡ l
-  keep-all [] = refl
-  keep-all (x ∷ l) = ap (λ (rest : List A). x ∷ rest) (keep-all l)
+-- two tests that are the same keep the same
+pub keep-same : {p q : List ℕ → Bool} → ((x : List ℕ) → p x ≡ q x) → (l : List (List ℕ)) → keep p l ≡ keep q l
+keep-same each l = ap (λ (p : List ℕ → Bool). keep p l) (fun-ext each)
 
 -- sections are picked by the sets that stand for them
 by-sets : (place : ℕ) (g : List ℕ → ℕ) (ss : List (List ℕ)) (rest : List ℕ) → picked place (map g ss ++ rest) ss ≡ keep (λ x. isIn place (g x)) ss

@@ -73,7 +73,7 @@ same-choices (f ∷ fs) (g ∷ gs) choices e each =
 
 -- ---- a place that is set
 -- all is sound everywhere
-all-sound : (f : Filter) → soundPlace (record { filter = f; choice = 0 }) ≡ true
+pub all-sound : (f : Filter) → soundPlace (record { filter = f; choice = 0 }) ≡ true
 all-sound f = go (isOpen f)
   where
     go : (b : Bool) → cond b (soundChoice (choiceOf 0)) (eqb 0 0) ≡ true

@@ -5,13 +5,14 @@ use mathlib.Core.Bool.{Bool, true, false, _&&_, _||_}
 use mathlib.Core.List.{List, [], _∷_}
 use Prim.Native.Nat.{ℕ, zero, suc, _+_, _≤_, _<_}
 use native.Mathlib.Nat.{not-suc-le-zero, le-of-suc-le-suc}
-use native.Mathlib.Decide.{ℕ-discrete, decLe}
+use native.Mathlib.Decide.{ℕ-discrete}
 use native.Mathlib.Numerals.{add-one}
 use native.Mathlib.Omega.{arith}
 use borrow.Author.Tests.{eq-eqb, ne-eqb, le-leb, lt-leb}
 use lib.Dec.{eqb, leb}
 use lib.ListN.{length, getD, drop}
 use lib.Seq.{getD-drop}
+use Rattle.ground.proofs.Walk.{leb-suc}
 use Rattle.state.specs.State.{standsOn, freeFilter}
 use Rattle.state.specs.Choice.{soundChoice, lets, codeOf, choiceOf, placed, freePlace, isFor}
 use Rattle.state.specs.declared.Choice.{Choice}
@@ -38,13 +39,6 @@ eqb-suc m n = go (ℕ-discrete m n)
     go (yes e) = eq-eqb m n e ∙ sym (eq-eqb (suc m) (suc n) (ap suc e))
     go (no d) = ne-eqb m n d ∙ sym (ne-eqb (suc m) (suc n) (λ e. d (omega arith)))
 
-leb-suc : (m n : ℕ) → leb m n ≡ leb (suc m) (suc n)
-leb-suc m n = go (decLe m n)
-  where
-    go : Dec (m ≤ n) → leb m n ≡ leb (suc m) (suc n)
-    go (yes b) = le-leb m n b ∙ sym (le-leb (suc m) (suc n) (omega arith))
-    go (no d) = lt-leb m n (omega arith) ∙ sym (lt-leb (suc m) (suc n) (omega arith))
-
 -- a number lets a table_id through where it is 0 or one more
 pub lets-code : (code table : ℕ) → lets (choiceOf code) table ≡ (eqb code 0 || eqb code (table + 1))
 lets-code zero table = refl
@@ -70,7 +64,7 @@ placed-at (f ∷ filters) choices (suc j) h =
 -- a sound choice's number is at most 255
 pub sound-code : (code : ℕ) → soundChoice (choiceOf code) ≡ leb code 255
 sound-code zero = refl
-sound-code (suc table) = leb-suc table 254
+sound-code (suc table) = sym (leb-suc table 254)
 
 sound-put : (c : Choice) → soundChoice c ≡ leb (codeOf c) 255
 sound-put c = ap soundChoice (sym (choice-back c)) ∙ sound-code (codeOf c)
