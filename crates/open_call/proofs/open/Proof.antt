@@ -60,7 +60,7 @@ returns-3 c =
     let if1 = c .before .before .before .before .before .if1 in
     let code-of = c .before .before .code-of in
     let fine : not (sound (a .state)) ≡ false = ap not (sym (is-sound .ensures)) ∙ if1 .left in
-    let above : 255 < codeOf (a .choice) = rw (code-of .ensures) at (c .before .if3 .taken) in
+    let above : 255 < codeOf (a .choice) = omega (arith, code-of .ensures, c .before .if3 .taken) in
     let barred : not (soundChoice (a .choice)) ≡ true = ap not (choice-unsound (a .choice) above) in
     rw (c .unopened3 .ensures)
     (search (yes, no, tests))
