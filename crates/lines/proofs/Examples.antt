@@ -11,7 +11,7 @@ use Rattle.lines.specs.Lines.{linesOf}
 
 -- a packet with one section, and whether it was a jump
 abbrev one : ℕ → Bool → Said
-one bytes jump = record { wanted = true; sections = 1; bytes = bytes; places = 1; jump = jump; repeat = false; givenUp = 0; begun = 1 }
+one bytes jump = record { wanted = true; sections = 1; bytes = bytes; jump = jump; repeat = false; givenUp = 0; begun = 1 }
 
 -- "0 0 section 128 4"
 first : linesOf 0 0 (given (one 4 false)) (0x80 ∷ 0x30 ∷ 0x01 ∷ 0xAA ∷ [])

@@ -7,9 +7,9 @@ use Prim.Native.Nat.{ℕ, zero, suc, _+_, _*_, _≤_}
 use native.Mathlib.Omega.{arith}
 use native.Mathlib.Numerals.{unary-clauses}
 use lib.Dec.{ltb}
-use lib.ListN.{length, getD, drop, length-append}
+use lib.ListN.{length, drop, length-append}
 use Rattle.ground.specs.Answer.{Answer, refused, given}
-use Rattle.section.specs.Section.{sectionSize}
+use Rattle.section.specs.Section.{tableOf, sectionSize}
 use Rattle.packet_call.specs.Packet.{Said, pidOf, packetOf}
 use Rattle.state.specs.declared.State.{State}
 use Rattle.driver.proofs.Limits.{packet-limits}
@@ -44,8 +44,8 @@ marks-short index pid s =
 sections-short : (index pid count : ℕ) (out : List ℕ) → length (sectionLines index pid count out) ≤ count * 92
 sections-short index pid zero out = omega arith
 sections-short index pid (suc count) out =
-    let line = lineOf index (Number pid) sectionWord (Number (getD out 0 0)) (Number (sectionSize out)) in
-    let a = line-short index (Number pid) sectionWord (Number (getD out 0 0)) (Number (sectionSize out)) (omega arith) in
+    let line = lineOf index (Number pid) sectionWord (Number (tableOf out)) (Number (sectionSize out)) in
+    let a = line-short index (Number pid) sectionWord (Number (tableOf out)) (Number (sectionSize out)) (omega arith) in
     let b = sections-short index pid count (drop (sectionSize out) out) in
     rw (length-append line (sectionLines index pid count (drop (sectionSize out) out))) (simp unary-clauses (omega arith))
 
@@ -61,7 +61,7 @@ answer-short index pid (given s) out few = go (s .wanted)
         rw (length-append (markLines index pid s) (sectionLines index pid (s .sections) out)) (omega arith)
     go false = omega arith
 
-pub lines-fit : (s : State) (p store out : List ℕ) (index : ℕ) → let a = packetOf s p store out in length (linesOf index (pidOf p) (a .answer) (a .out)) ≤ most
-lines-fit s p store out index =
-    let a = packetOf s p store out in
-    answer-short index (pidOf p) (a .answer) (a .out) (λ said e. packet-limits s p store out said e .sections)
+pub lines-fit : (s : State) (p store out sets : List ℕ) (index : ℕ) → let a = packetOf s p store out sets in length (linesOf index (pidOf p) (a .answer) (a .out)) ≤ most
+lines-fit s p store out sets index =
+    let a = packetOf s p store out sets in
+    answer-short index (pidOf p) (a .answer) (a .out) (λ said e. packet-limits s p store out sets said e .sections)

@@ -15,5 +15,5 @@ pub record Claims : Type 0 where
   pub writesHeader : (t : Text) → Determined (WritesHeader t)
   pub writesLines : (t : Text) (index : ℕ) (packet : List ℕ) (answer : Handling) (out : List ℕ) → Determined (WritesLines t index packet answer out)
   -- a packet's lines are never longer than this
-  pub fit : (s : State) (p store out : List ℕ) (index : ℕ)
-      → let a = packetOf s p store out in length (linesOf index (pidOf p) (a .answer) (a .out)) ≤ most
+  pub fit : (s : State) (p store out sets : List ℕ) (index : ℕ)
+      → let a = packetOf s p store out sets in length (linesOf index (pidOf p) (a .answer) (a .out)) ≤ most

@@ -42,16 +42,17 @@ fn read_and_list(
     piece: &mut [u8],
     store: &mut [u8],
     out: &mut [u8],
+    sets: &mut [u32],
     text: &mut [u8],
 ) -> Step
     requires { ⌜ Fits (now piece) (now text) ⌝ }
     requires { ⌜ step .rest < packetBytes ⌝ }
     ensures { λ r. ⌜ r .rest < packetBytes ⌝ }
-    ensures { λ r. ⌜ TakesTurn (betweenOf step (now (piece .entry)) (now (store .entry)) (now (out .entry)))
-        (turnIn (toldPiece r (now (piece .exit)) (now (store .exit)) (now (out .exit)) (now (text .exit)))) ⌝ }
+    ensures { λ r. ⌜ TakesTurn (betweenOf step (now (piece .entry)) (now (store .entry)) (now (out .entry)) (now (sets .entry)))
+        (turnIn (toldPiece r (now (piece .exit)) (now (store .exit)) (now (out .exit)) (now (sets .exit)) (now (text .exit)))) ⌝ }
 {
     let brought = read_on(piece, step.rest);
-    let mut next = pieces::list_read(step, brought, piece, store, out, text);
+    let mut next = pieces::list_read(step, brought, piece, store, out, sets, text);
     let is_written = write(text, next.progress.at);
     next.is_on = next.is_on & is_written;
     next
@@ -59,15 +60,21 @@ fn read_and_list(
 
 // The whole input listed, from a fresh state with a filter on PID 0.
 // A proved loop has to end, and nothing says that an input does, so it counts down from a number that no run uses up.
-fn list_all(piece: &mut [u8], store: &mut [u8], out: &mut [u8], text: &mut [u8]) -> Step
+fn list_all(
+    piece: &mut [u8],
+    store: &mut [u8],
+    out: &mut [u8],
+    sets: &mut [u32],
+    text: &mut [u8],
+) -> Step
     requires { ⌜ Fits (now piece) (now text) ⌝ }
-    ensures { λ r. ⌜ ListsInput (betweenOf beginning (now (piece .entry)) (now (store .entry)) (now (out .entry)))
-        (betweenOf r (now (piece .exit)) (now (store .exit)) (now (out .exit))) (r .«is_on») ⌝ }
+    ensures { λ r. ⌜ ListsInput (betweenOf beginning (now (piece .entry)) (now (store .entry)) (now (out .entry)) (now (sets .entry)))
+        (betweenOf r (now (piece .exit)) (now (store .exit)) (now (out .exit)) (now (sets .exit))) (r .«is_on») ⌝ }
 {
     let mut step = pieces::begin();
     let mut turns = u64::MAX;
     while (0 < turns) & step.is_on {
-        step = read_and_list(step, piece, store, out, text);
+        step = read_and_list(step, piece, store, out, sets, text);
         turns -= 1;
     }
     step
@@ -91,9 +98,10 @@ fn main() {
     let mut piece = new_piece();
     let mut store = [0u8; driver::STORE_BYTES];
     let mut out = [0u8; gather::LEAST_OUTPUT];
+    let mut sets = [0u32; driver::LEAST_LIST];
     let mut text = new_text();
     let end = lines::header(&mut text, 0);
     if write(&text, end) {
-        list_all(&mut piece, &mut store, &mut out, &mut text);
+        list_all(&mut piece, &mut store, &mut out, &mut sets, &mut text);
     }
 }

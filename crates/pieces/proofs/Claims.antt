@@ -7,6 +7,7 @@ use native.Mathlib.Nat.{mod-eq-of-lt}
 use Rattle.ground.specs.Answer.{given}
 use Rattle.ground.proofs.Outcome.{determined, determined-told}
 use Rattle.state.specs.State.{fresh}
+use Rattle.state.specs.declared.Choice.the-variants.{All}
 use Rattle.sound.specs.Sound.{sound}
 use Rattle.open_call.specs.Open.{openOf}
 use Rattle.pieces.specs.Claims.{Claims}
@@ -16,26 +17,26 @@ use Rattle.pieces.proofs.Loop.{work-on, lines-on}
 use Rattle.pieces.proofs.Cuts.{read-read, lines-lines}
 use Rattle.pieces.proofs.Turns.{is-turn}
 
--- an open on PID 0 of a fresh state is given
-opened : openOf fresh 0 .answer ≡ given (record { number = 1; place = 0 })
+-- an open for all tables on PID 0 of a fresh state is given
+opened : openOf fresh 0 All .answer ≡ given (record { number = 1; place = 0 })
 unfolding openOf sound
 opened = refl
 
 -- what an outcome tells leaves nothing of it untold
 abbrev Outcome : Type 0
-Outcome = Step × List ℕ × List ℕ × List ℕ × List ℕ
+Outcome = Step × List ℕ × List ℕ × List ℕ × List ℕ × List ℕ
 
 abbrev toldAs : Outcome → AfterPiece
-toldAs o = toldPiece (o .0) (o .1) (o .2) (o .3) (o .4)
+toldAs o = toldPiece (o .0) (o .1) (o .2) (o .3) (o .4) (o .5)
 
 abbrev madeOf : AfterPiece → Outcome
-madeOf a = (a .step, a .piece, a .store, a .out, a .text)
+madeOf a = (a .step, a .piece, a .store, a .out, a .sets, a .text)
 
 pub claims : Claims
 claims =
     record {
       begins = determined beginning;
-      listsRead = λ s brought piece store out text. determined-told toldAs madeOf (λ o. refl) (pieceOf s brought piece store out text);
+      listsRead = λ s brought piece store out sets text. determined-told toldAs madeOf (λ o. refl) (pieceOf s brought piece store out sets text);
       rises = λ i h. mod-eq-of-lt h;
       opens = opened;
       workOn = work-on;

@@ -9,7 +9,7 @@ use Rattle.lines.proofs.Room as room
 use Rattle.pieces.specs.Input.{Work, nextLines, afterCall, printed}
 
 pub lines-fit : (w : Work) (p : List ℕ) → length (nextLines w p) ≤ most
-lines-fit w p = room.lines-fit (w .state) p (w .store) (w .out) (w .index)
+lines-fit w p = room.lines-fit (w .state) p (w .store) (w .out) (w .sets) (w .index)
 
 pub printed-fit : (n : ℕ) (w : Work) (bytes : List ℕ) → length (printed n w bytes) ≤ n * most
 printed-fit zero w bytes = omega arith

@@ -22,11 +22,11 @@ use Rattle.pieces.proofs.Told.{same-turn}
 use Rattle.pieces.proofs.Room.{lines-fit, printed-fit}
 use Rattle.pieces.proofs.Cuts.{piece-work, piece-lines, piece-kept}
 
-module _ (s : Step) (piece store out text : List ℕ) (fits : Fits piece text) (short : s .rest < 188) where
+module _ (s : Step) (piece store out sets text : List ℕ) (fits : Fits piece text) (short : s .rest < 188) where
   abbrev w : Work
-  w = workOf (s .progress) store out
+  w = workOf (s .progress) store out sets
 
-  more-turn : (size : ℕ) → s .rest + size ≤ length piece → IsTurn s (Bytes size) piece store out (moreOf w (s .rest + size) piece text)
+  more-turn : (size : ℕ) → s .rest + size ≤ length piece → IsTurn s (Bytes size) piece store out sets (moreOf w (s .rest + size) piece text)
   more-turn size inside =
       let end = s .rest + size in
       let lines = printed (end / 188) w piece in
@@ -44,13 +44,13 @@ module _ (s : Step) (piece store out text : List ℕ) (fits : Fits piece text) (
   abbrev kept : List ℕ
   kept = take (s .rest) piece
 
-  last-turn : IsTurn s End piece store out (endedOf w (s .rest) piece text)
+  last-turn : IsTurn s End piece store out sets (endedOf w (s .rest) piece text)
   last-turn = go (ltb 0 (s .rest)) refl
     where
       size : length kept ≡ s .rest
       size = let enough = fits .packet in length-take-le (s .rest) piece (omega arith)
 
-      go : (b : Bool) → ltb 0 (s .rest) ≡ b → IsTurn s End piece store out (endedOf w (s .rest) piece text)
+      go : (b : Bool) → ltb 0 (s .rest) ≡ b → IsTurn s End piece store out sets (endedOf w (s .rest) piece text)
       go true e =
           let is-cut : ltb 0 (length kept) ≡ true = ap (λ (k : ℕ). ltb 0 k) size ∙ e in
           let fit = lines-fit w kept in
@@ -62,7 +62,7 @@ module _ (s : Step) (piece store out text : List ℕ) (fits : Fits piece text) (
           let is-whole : ltb 0 (length kept) ≡ false = ap (λ (k : ℕ). ltb 0 k) size ∙ e in
           rw e (record { turn = same-turn false (rw is-whole refl) refl (rw is-whole refl); rest = omega arith })
 
-  pub is-turn : (brought : Brought) → EndsIn brought (s .rest) piece → IsTurn s brought piece store out (pieceOf s brought piece store out text)
+  pub is-turn : (brought : Brought) → EndsIn brought (s .rest) piece → IsTurn s brought piece store out sets (pieceOf s brought piece store out sets text)
   is-turn (Bytes size) inside =
       let end : min (s .rest + size) (length piece) ≡ s .rest + size = omega arith in
       rw end (more-turn size inside)

@@ -9,12 +9,13 @@ use Rattle.packet_call.specs.Packet.{pidOf, packetOf}
 use Rattle.state.specs.declared.State.{State}
 use Rattle.lines.specs.Lines.{linesOf}
 
--- what goes on from packet to packet: the driver's state, the next packet's index, the store and the output
+-- what goes on from packet to packet: the driver's state, the next packet's index, the store, the output and the list of sets
 pub record Work : Type 0 where
   pub state : State
   pub index : ℕ
   pub store : List ℕ
   pub out : List ℕ
+  pub sets : List ℕ
 
 -- "packet index": one more, in 64 bits; no input has so many packets that it begins again
 abbrev pub nextIndex : ℕ → ℕ
@@ -23,12 +24,12 @@ nextIndex i = (i + 1) % 2 ^ 64
 -- the work after a packet call
 abbrev pub afterCall : Work → List ℕ → Work
 afterCall w p =
-    let a = packetOf (w .state) p (w .store) (w .out) in
-    record { state = a .state; index = nextIndex (w .index); store = a .store; out = a .out }
+    let a = packetOf (w .state) p (w .store) (w .out) (w .sets) in
+    record { state = a .state; index = nextIndex (w .index); store = a .store; out = a .out; sets = a .sets }
 
 -- the lines of that packet
 abbrev pub nextLines : Work → List ℕ → List ℕ
-nextLines w p = let a = packetOf (w .state) p (w .store) (w .out) in linesOf (w .index) (pidOf p) (a .answer) (a .out)
+nextLines w p = let a = packetOf (w .state) p (w .store) (w .out) (w .sets) in linesOf (w .index) (pidOf p) (a .answer) (a .out)
 
 -- the work after n packet calls, on the packets that these bytes start with
 abbrev pub afterCalls : ℕ → Work → List ℕ → Work

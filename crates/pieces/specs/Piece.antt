@@ -8,6 +8,7 @@ use lib.ListN.{length, take, drop}
 use Rattle.ground.specs.House.{packetBytes}
 use Rattle.ground.specs.Write.{put}
 use Rattle.state.specs.State.{fresh}
+use Rattle.state.specs.declared.Choice.the-variants.{All}
 use Rattle.open_call.specs.Open.{openOf}
 use Rattle.text.specs.Text.{Text, upTo, withBytes}
 use Rattle.pieces.specs.Input.{Work, afterCall, nextLines, afterCalls, printed}
@@ -16,12 +17,12 @@ use Rattle.pieces.specs.declared.reads.Step.{Step}
 use Rattle.pieces.specs.declared.reads.Brought.{Brought}
 use Rattle.pieces.specs.declared.reads.Brought.the-variants.{Bytes, End, Failure}
 
--- the beginning: a filter is open on PID 0, no packet came, nothing was read, and there is no text
+-- the beginning: a filter for all tables is open on PID 0, no packet came, nothing was read, and there is no text
 abbrev pub beginning : Step
-beginning = record { progress = record { state = openOf fresh 0 .state; index = 0; at = 0 }; rest = 0; «is_on» = true }
+beginning = record { progress = record { state = openOf fresh 0 All .state; index = 0; at = 0 }; rest = 0; «is_on» = true }
 
-abbrev pub workOf : Progress → List ℕ → List ℕ → Work
-workOf t store out = record { state = t .state; index = t .index; store = store; out = out }
+abbrev pub workOf : Progress → List ℕ → List ℕ → List ℕ → Work
+workOf t store out sets = record { state = t .state; index = t .index; store = store; out = out; sets = sets }
 
 -- all that there is after a read was listed
 pub record AfterPiece : Type 0 where
@@ -29,6 +30,7 @@ pub record AfterPiece : Type 0 where
   pub piece : List ℕ
   pub store : List ℕ
   pub out : List ℕ
+  pub sets : List ℕ
   pub text : List ℕ
 
 -- this work and this text, so many bytes kept at the piece's start, and whether to read on
@@ -39,11 +41,12 @@ outcomeOf w t rest isOn piece =
       piece = piece;
       store = w .store;
       out = w .out;
+      sets = w .sets;
       text = t .bytes;
     }
 
-abbrev pub toldPiece : Step → List ℕ → List ℕ → List ℕ → List ℕ → AfterPiece
-toldPiece s piece store out text = outcomeOf (workOf (s .progress) store out) (upTo text (s .progress .at)) (s .rest) (s .«is_on») piece
+abbrev pub toldPiece : Step → List ℕ → List ℕ → List ℕ → List ℕ → List ℕ → AfterPiece
+toldPiece s piece store out sets text = outcomeOf (workOf (s .progress) store out sets) (upTo text (s .progress .at)) (s .rest) (s .«is_on») piece
 
 -- the piece's bytes up to their end: each whole packet is called, its lines are printed, and what is left is moved to the start
 abbrev pub moreOf : Work → ℕ → List ℕ → List ℕ → AfterPiece
@@ -59,7 +62,7 @@ endedOf w rest piece text =
     cond (ltb 0 rest) (outcomeOf (afterCall w kept) (withBytes (upTo text 0) (nextLines w kept)) 0 false piece) (outcomeOf w (upTo text 0) 0 false piece)
 
 -- what a read brought, listed in an empty text; an error leaves all as it was
-abbrev pub pieceOf : Step → Brought → List ℕ → List ℕ → List ℕ → List ℕ → AfterPiece
-pieceOf s (Bytes size) piece store out text = moreOf (workOf (s .progress) store out) (min (s .rest + size) (length piece)) piece text
-pieceOf s End piece store out text = endedOf (workOf (s .progress) store out) (s .rest) piece text
-pieceOf s Failure piece store out text = outcomeOf (workOf (s .progress) store out) (upTo text 0) (s .rest) false piece
+abbrev pub pieceOf : Step → Brought → List ℕ → List ℕ → List ℕ → List ℕ → List ℕ → AfterPiece
+pieceOf s (Bytes size) piece store out sets text = moreOf (workOf (s .progress) store out sets) (min (s .rest + size) (length piece)) piece text
+pieceOf s End piece store out sets text = endedOf (workOf (s .progress) store out sets) (s .rest) piece text
+pieceOf s Failure piece store out sets text = outcomeOf (workOf (s .progress) store out sets) (upTo text 0) (s .rest) false piece

@@ -17,14 +17,14 @@ pub record Fits (piece text : List ℕ) : Type 0 where
   pub room : length piece / packetBytes * most ≤ length text
 
 -- what is held between two reads: the kept bytes are at the piece's start
-abbrev pub betweenOf : Step → List ℕ → List ℕ → List ℕ → Between
-betweenOf s piece store out = record { work = workOf (s .progress) store out; kept = take (s .rest) piece }
+abbrev pub betweenOf : Step → List ℕ → List ℕ → List ℕ → List ℕ → Between
+betweenOf s piece store out sets = record { work = workOf (s .progress) store out sets; kept = take (s .rest) piece }
 
 -- what is held after a turn: the lines are in the text
 abbrev pub turnIn : AfterPiece → Turn
 turnIn a =
     record {
-      between = betweenOf (a .step) (a .piece) (a .store) (a .out);
+      between = betweenOf (a .step) (a .piece) (a .store) (a .out) (a .sets);
       lines = take (a .step .progress .at) (a .text);
       isOn = a .step .«is_on»;
     }
@@ -42,6 +42,6 @@ readingOf End rest piece = ended
 readingOf Failure rest piece = failed
 
 -- the turn that what was brought makes, and again less than a packet is kept
-pub record IsTurn (s : Step) (brought : Brought) (piece store out : List ℕ) (a : AfterPiece) : Type 0 where
-  pub turn : turnIn a ≡ turnOf (betweenOf s piece store out) (readingOf brought (s .rest) piece)
+pub record IsTurn (s : Step) (brought : Brought) (piece store out sets : List ℕ) (a : AfterPiece) : Type 0 where
+  pub turn : turnIn a ≡ turnOf (betweenOf s piece store out sets) (readingOf brought (s .rest) piece)
   pub rest : a .step .rest < packetBytes

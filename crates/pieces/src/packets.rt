@@ -24,14 +24,15 @@ pub(crate) fn list_packet(
     packet: &[u8],
     store: &mut [u8],
     out: &mut [u8],
+    sets: &mut [u32],
     text: &mut [u8],
 ) -> Progress
-    ensures { λ r. let w = workOf progress (now (store .entry)) (now (out .entry)) in
+    ensures { λ r. let w = workOf progress (now (store .entry)) (now (out .entry)) (now (sets .entry)) in
         ⌜ Lists (afterCall w (now (packet .entry))) (nextLines w (now (packet .entry))) (upTo (now (text .entry)) (progress .at))
-        (workOf r (now (store .exit)) (now (out .exit))) (upTo (now (text .exit)) (r .at)) ⌝ }
+        (workOf r (now (store .exit)) (now (out .exit)) (now (sets .exit))) (upTo (now (text .exit)) (r .at)) ⌝ }
 {
     let state = progress.state;
-    let handled = driver::packet(state, packet, store, out);
+    let handled = driver::packet(state, packet, store, out, sets);
     let state = handled.state;
     let answer = handled.answer;
     let at = lines::packet(text, progress.at, progress.index, packet, answer, out);
@@ -49,19 +50,20 @@ pub(crate) fn list_packets(
     count: usize,
     store: &mut [u8],
     out: &mut [u8],
+    sets: &mut [u32],
     text: &mut [u8],
 ) -> Progress
     requires { ⌜ count * packetBytes ≤ length (now piece) ⌝ }
-    ensures { λ r. let w = workOf progress (now (store .entry)) (now (out .entry)) in
+    ensures { λ r. let w = workOf progress (now (store .entry)) (now (out .entry)) (now (sets .entry)) in
         ⌜ Lists (afterCalls count w (now (piece .entry))) (printed count w (now (piece .entry))) (upTo (now (text .entry)) (progress .at))
-        (workOf r (now (store .exit)) (now (out .exit))) (upTo (now (text .exit)) (r .at)) ⌝ }
+        (workOf r (now (store .exit)) (now (out .exit)) (now (sets .exit))) (upTo (now (text .exit)) (r .at)) ⌝ }
 {
     let mut next = progress;
     let mut left = count;
     let mut place: usize = 0;
     while 0 < left {
         let end = place + PACKET_BYTES;
-        next = list_packet(next, &piece[place..end], store, out, text);
+        next = list_packet(next, &piece[place..end], store, out, sets, text);
         place = end;
         left -= 1;
     }

@@ -49,15 +49,16 @@ fn list_more(
     piece: &mut [u8],
     store: &mut [u8],
     out: &mut [u8],
+    sets: &mut [u32],
     text: &mut [u8],
 ) -> Step
     requires { ⌜ end ≤ length (now piece) ⌝ }
-    ensures { λ r. ⌜ toldPiece r (now (piece .exit)) (now (store .exit)) (now (out .exit)) (now (text .exit))
-        ≡ moreOf (workOf progress (now (store .entry)) (now (out .entry))) end (now (piece .entry)) (now (text .entry)) ⌝ }
+    ensures { λ r. ⌜ toldPiece r (now (piece .exit)) (now (store .exit)) (now (out .exit)) (now (sets .exit)) (now (text .exit))
+        ≡ moreOf (workOf progress (now (store .entry)) (now (out .entry)) (now (sets .entry))) end (now (piece .entry)) (now (text .entry)) ⌝ }
 {
     let mut first = progress;
     first.at = 0;
-    let next = packets::list_packets(first, piece, end / PACKET_BYTES, store, out, text);
+    let next = packets::list_packets(first, piece, end / PACKET_BYTES, store, out, sets, text);
     packets::move_rest(piece, end - end % PACKET_BYTES, end % PACKET_BYTES);
     Step {
         progress: next,
@@ -67,15 +68,22 @@ fn list_more(
 }
 
 // The kept bytes at the end of the input, listed in an empty text.
-fn list_end(step: Step, piece: &[u8], store: &mut [u8], out: &mut [u8], text: &mut [u8]) -> Step
-    ensures { λ r. ⌜ toldPiece r (now (piece .entry)) (now (store .exit)) (now (out .exit)) (now (text .exit))
-        ≡ endedOf (workOf (step .progress) (now (store .entry)) (now (out .entry))) (step .rest) (now (piece .entry)) (now (text .entry)) ⌝ }
+fn list_end(
+    step: Step,
+    piece: &[u8],
+    store: &mut [u8],
+    out: &mut [u8],
+    sets: &mut [u32],
+    text: &mut [u8],
+) -> Step
+    ensures { λ r. ⌜ toldPiece r (now (piece .entry)) (now (store .exit)) (now (out .exit)) (now (sets .exit)) (now (text .exit))
+        ≡ endedOf (workOf (step .progress) (now (store .entry)) (now (out .entry)) (now (sets .entry))) (step .rest) (now (piece .entry)) (now (text .entry)) ⌝ }
 {
     let mut progress = step.progress;
     progress.at = 0;
     if 0 < step.rest {
         let kept = text::first(piece, step.rest);
-        progress = packets::list_packet(progress, kept, store, out, text);
+        progress = packets::list_packet(progress, kept, store, out, sets, text);
     }
     Step {
         progress,
@@ -91,18 +99,19 @@ pub fn list_read(
     piece: &mut [u8],
     store: &mut [u8],
     out: &mut [u8],
+    sets: &mut [u32],
     text: &mut [u8],
 ) -> Step
-    ensures { λ r. ⌜ ListsRead step brought (now (piece .entry)) (now (store .entry)) (now (out .entry)) (now (text .entry))
-        (r, now (piece .exit), now (store .exit), now (out .exit), now (text .exit)) ⌝ }
+    ensures { λ r. ⌜ ListsRead step brought (now (piece .entry)) (now (store .entry)) (now (out .entry)) (now (sets .entry)) (now (text .entry))
+        (r, now (piece .exit), now (store .exit), now (out .exit), now (sets .exit), now (text .exit)) ⌝ }
 {
     match brought {
         Brought::Bytes(size) => {
             let end = further(step.rest, size, piece.len());
             let progress = step.progress;
-            list_more(progress, end, piece, store, out, text)
+            list_more(progress, end, piece, store, out, sets, text)
         }
-        Brought::End => list_end(step, piece, store, out, text),
+        Brought::End => list_end(step, piece, store, out, sets, text),
         Brought::Failure => {
             let mut last = step;
             last.progress.at = 0;

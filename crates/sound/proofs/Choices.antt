@@ -1,13 +1,13 @@
 -- The choices of a sound state: each is tested by the number of its filter alone, and stays sound where another is set.
 -- Assumes nothing.
 use mathlib.Core.Path.{_≡_, refl, sym, _∙_, ap, ap₂}
-use mathlib.Core.Bool.{Bool, true, false, cond, not, _&&_, _||_}
+use mathlib.Core.Bool.{Bool, true, false, cond, not, _&&_}
 use mathlib.Core.List.{List, [], _∷_, map}
 use Prim.Native.Nat.{ℕ, suc, _+_, _≤_, _<_}
 use native.Mathlib.Numerals.{add-one}
 use native.Mathlib.Decide.{ℕ-discrete, decLt}
 use native.Mathlib.Omega.{arith}
-use borrow.Author.Tests.{eq-eqb, ne-eqb, le-leb}
+use borrow.Author.Tests.{eq-eqb, ne-eqb, le-leb, lt-leb}
 use lib.Dec.{eqb, leb}
 use lib.ListN.{length, drop, getD, set, length-map, length-set, List·getD-eq-default, List·getD-map}
 use lib.Seq.{getD-set-same, getD-set-other}
@@ -18,17 +18,19 @@ use Rattle.state.specs.Choice.{soundChoice, choiceOf, Placed, placed, freePlace
 use Rattle.state.specs.declared.Filter.{Filter}
 use Rattle.state.proofs.Chosen.{sound-code, placed-length, placed-at}
 use Rattle.sound.specs.Sound.{soundPlace}
-use Rattle.sound.specs.Steps.{known}
+use Rattle.sound.specs.Steps.{known, highestChoice}
 
 -- a choice is one, and all where there is no number
-pub choice-told : (number choice : ℕ) → (eqb choice 0 || (not (eqb number 0) && leb choice 255)) ≡ soundPlace (record { filter = known number; choice = choice })
-choice-told number choice = go (eqb number 0) (ℕ-discrete choice 0) ∙ ap (λ (b : Bool). cond (not (eqb number 0)) b (eqb choice 0)) (sym (sound-code choice))
+choice-told : (number choice : ℕ) → leb choice (highestChoice number) ≡ soundPlace (record { filter = known number; choice = choice })
+choice-told number choice = go (eqb number 0)
   where
-    go : (b : Bool) → Dec (choice ≡ 0) → (eqb choice 0 || (not b && leb choice 255)) ≡ cond (not b) (leb choice 255) (eqb choice 0)
-    go true (yes e) = rw (eq-eqb choice 0 e)
-    go true (no n) = rw (ne-eqb choice 0 n)
-    go false (yes e) = rw (eq-eqb choice 0 e) (sym (le-leb choice 255 (omega arith)))
-    go false (no n) = rw (ne-eqb choice 0 n)
+    none : Dec (choice ≡ 0) → leb choice 0 ≡ eqb choice 0
+    none (yes e) = le-leb choice 0 (omega arith) ∙ sym (eq-eqb choice 0 e)
+    none (no n) = lt-leb choice 0 (omega arith) ∙ sym (ne-eqb choice 0 n)
+
+    go : (b : Bool) → leb choice (cond b 0 255) ≡ cond (not b) (soundChoice (choiceOf choice)) (eqb choice 0)
+    go true = none (ℕ-discrete choice 0)
+    go false = sym (sound-code choice)
 
 -- one place more, and the end
 module _ (numbers choices : List ℕ) (i : ℕ) (fits : Bool) where
@@ -38,12 +40,12 @@ module _ (numbers choices : List ℕ) (i : ℕ) (fits : Bool) where
   as-many : length records ≡ length numbers
   as-many = placed-length (map known numbers) choices ∙ length-map numbers known
 
-  pub choices-go : (here : Bool) → i < length numbers → here ≡ soundPlace (record { filter = known (getD numbers i 0); choice = getD choices i 0 })
-      → ((fits && here) && all soundPlace (drop (i + 1) (placed (map known numbers) choices))) ≡ (fits && all soundPlace (drop i (placed (map known numbers) choices)))
-  choices-go here h e =
-      grouped fits here (all soundPlace (drop (i + 1) records))
+  pub choices-go : (most : ℕ) → i < length numbers → most ≡ highestChoice (getD numbers i 0)
+      → ((fits && leb (getD choices i 0) most) && all soundPlace (drop (i + 1) (placed (map known numbers) choices))) ≡ (fits && all soundPlace (drop i (placed (map known numbers) choices)))
+  choices-go most h e =
+      grouped fits (leb (getD choices i 0) most) (all soundPlace (drop (i + 1) records))
       ∙ ap (λ (b : Bool). fits && b)
-      (ap₂ (λ (b : Bool) (n : ℕ). b && all soundPlace (drop n records)) (e ∙ ap soundPlace own) (add-one i) ∙ sym (all-turn soundPlace records i freePlace (rw as-many h)))
+      (ap₂ (λ (b : Bool) (n : ℕ). b && all soundPlace (drop n records)) (ap (leb (getD choices i 0)) e ∙ choice-told (getD numbers i 0) (getD choices i 0) ∙ ap soundPlace own) (add-one i) ∙ sym (all-turn soundPlace records i freePlace (rw as-many h)))
     where
       grouped : (a b c : Bool) → ((a && b) && c) ≡ (a && (b && c))
       grouped true b c = refl

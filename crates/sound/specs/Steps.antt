@@ -27,6 +27,10 @@ numberKept f = f .number
 abbrev pub known : ℕ → Filter
 known number = record { number = number; area = 0 }
 
+-- the highest number of a choice that a filter with this number may have
+abbrev pub highestChoice : ℕ → ℕ
+highestChoice number = cond (eqb number 0) 0 255
+
 -- a place's record is all zero
 abbrev pub isZeroPlace : Filter → Bool
 isZeroPlace f = eqb (f .number) 0 && eqb (f .area) 0

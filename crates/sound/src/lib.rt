@@ -9,7 +9,7 @@ ghost use Rattle.state.specs.State.{isOpen};
 ghost use Rattle.state.specs.Choice.{placed};
 ghost use Rattle.sound.specs.Sound.{soundArea, samePid, sameNumber, soundNext, soundPlace};
 ghost use Rattle.sound.specs.Promises.{TellsSoundState};
-ghost use Rattle.sound.specs.Steps.{known, isNew, isZeroPlace, fitsPlace, countedIn, metIn, isMet, Counts, isFreeArea, isNone, agree};
+ghost use Rattle.sound.specs.Steps.{known, highestChoice, isNew, isZeroPlace, fitsPlace, countedIn, metIn, isMet, Counts, isFreeArea, isNone, agree};
 use gather::Marks;
 use state::AREAS;
 use state::Area;
@@ -101,11 +101,14 @@ fn end_of_places(filters: [Filter; PLACES]) -> usize
     0
 }
 
-// Whether a choice is one, and all where the filter has no number.
-fn choice_fits(number: u16, choice: u16) -> bool
-    ensures { λ r. ⌜ r ≡ soundPlace (record { filter = known number; choice = choice }) ⌝ }
+// The highest choice of a filter with this number: all alone where there is none.
+fn highest_choice(number: u16) -> u16
+    ensures { λ r. ⌜ r ≡ highestChoice number ⌝ }
 {
-    (choice == 0) | ((number != 0) & (choice <= LAST_CHOICE))
+    if number == 0 {
+        return 0;
+    }
+    LAST_CHOICE
 }
 
 // Whether the choices of filters with these numbers are sound: all are looked at, so that the compiler can test many at once.
@@ -115,7 +118,7 @@ fn choices_fit(numbers: [u16; PLACES], choices: [u16; PLACES]) -> bool
     let mut fits = true;
     let mut i: usize = 0;
     while i < PLACES {
-        fits = fits & choice_fits(numbers[i], choices[i]);
+        fits = fits & (choices[i] <= highest_choice(numbers[i]));
         i += 1;
     }
     fits

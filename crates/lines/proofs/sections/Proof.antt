@@ -22,11 +22,11 @@ abbrev μ-loop : tie.MeasureT-loop
 loop-holds : tie.Need-loop-holds Inv-loop μ-loop
 loop-holds c = (refl, refl)
 
-section-size-requires : tie.Need-section-size-requires Inv-loop μ-loop
-section-size-requires c κs = search needs
+size-at-requires : tie.Need-size-at-requires Inv-loop μ-loop
+size-at-requires c κs = search needs
 
-byte-requires : tie.Need-byte-requires Inv-loop μ-loop
-byte-requires c κs = search needs
+table-at-requires : tie.Need-table-at-requires Inv-loop μ-loop
+table-at-requires c κs = search needs
 
 section-requires : tie.Need-section-requires Inv-loop μ-loop
 section-requires c κs = search needs
@@ -43,11 +43,13 @@ loop-less c = omega arith
 loop-again : tie.Need-loop-again Inv-loop μ-loop
 loop-again c =
     let a = c .before .before .before .before .before .before .before .before .before .before .before .args in
-    let l = c .before .before .before .before .before .before .before .before .loop in (
+    let l = c .before .before .before .before .before .before .before .before .loop in
+    let size = c .before .before .before .before .before .before .size-at in
+    let table = c .before .before .before .before .before .table-at in
+    let written = c .before .before .before .section in (
       search needs,
-      progress (upTo (l .text) (l .end)) (upTo (c .before .before .before .section .last .0) (c .before .before .before .section .result)) (a .index) (a .pid) (l .left) (l .place) (a .out .now)
-          (c .before .before .before .before .byte .result) (c .before .before .before .before .before .before .section-size .result) (c .further .result) (omega arith)
-          (c .before .before .before .before .byte .ensures) (c .before .before .before .before .before .before .section-size .ensures) (c .further .ensures) (c .before .before .before .section .ensures)
+      progress (upTo (l .text) (l .end)) (upTo (written .last .0) (written .result)) (a .index) (a .pid) (l .left) (l .place) (a .out .now)
+          (table .result) (size .result) (c .further .result) (omega arith) (table .ensures) (size .ensures) (c .further .ensures) (written .ensures)
           ∙ l .inv .1,
     )
 
@@ -68,8 +70,8 @@ sections-spec =
     Inv-loop
     μ-loop
     loop-holds
-    section-size-requires
-    byte-requires
+    size-at-requires
+    table-at-requires
     section-requires
     further-requires
     sub-left

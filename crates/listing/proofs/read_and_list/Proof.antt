@@ -35,23 +35,27 @@ same-length-3 c = search needs
 same-length-4 : tie.Need-same-length-4
 same-length-4 c = search needs
 
+same-length-5 : tie.Need-same-length-5
+same-length-5 c = search needs
+
 returns : tie.Need-returns
 returns c =
-    let a = c .before .before .before .before .before .before .before .before .before .before .before .before .before .before .before .before .before .before .before .before .before .before .before .before .args in
+    let start = c .before .before .before .before .before .before .before .before .before .before .before .before .before .before .before .before .before .before .before .before .before .before .before .before .before .before .before .before in
+    let a = start .args in
+    let read = c .before .before .before .before .before .before .before .before .before .before .before .before .before .before .before .before .before .before .before .before .before .read-on in
+    let list = c .before .before .before .before .before .before .before .before .before .before .before .before .before .list-read in
     let store = now (a .store) in
     let out = now (a .out) in
-    let behind = c .before .before .before .before .before .before .before .before .before .before .before .before .before .before .before .before .before .before .read-on .ensures in
-    let brought = c .before .before .before .before .before .before .before .before .before .before .before .before .before .before .before .before .before .before .read-on .result in
-    let piece = c .before .before .before .before .before .before .before .before .before .before .before .before .before .before .before .before .before .before .read-on .last .0 in
+    let sets = now (a .sets) in
+    let piece = read .last .0 in
     let long : length piece ≡ length (now (a .piece)) = search needs in
-    let given = c .before .before .before .before .before .before .before .before .before .before .before .before .before .before .before .before .before .before .before .before .before .before .before .before .pre .0 in
+    let given = start .pre .0 in
     let fits : Fits piece (now (a .text)) = record { packet = rw long (given .packet); room = rw long (given .room) } in
-    let turned = is-turn (a .step) piece store out (now (a .text)) fits (c .before .before .before .before .before .before .before .before .before .before .before .before .before .before .before .before .before .before .before .before .before .before .before .before .pre .1) brought (behind .ends) in
-    let listed = c .before .before .before .before .before .before .before .before .before .before .before .list-read .ensures in
-    let same : betweenOf (a .step) piece store out ≡ betweenOf (a .step) (now (a .piece)) store out = ap {B = Between} (λ (l : List ℕ). record { work = workOf (a .step .progress) store out; kept = l }) (behind .kept) in
-    let told = c .before .before .before .before .before .before .before .before .before .before .before .list-read .last in
-    let t = turnIn (toldPiece (c .before .before .before .before .before .before .before .before .before .before .before .list-read .result) (told .1 .1 .0) (told .1 .1 .1 .0) (told .1 .1 .1 .1 .0) (told .1 .1 .1 .1 .1 .0)) in
-    (subst (λ (o : AfterPiece). o .step .rest < 188) (sym listed) (turned .rest), takes-turn _ _ t (readingOf brought (a .step .rest) piece) (c .before .write .result) same (ap turnIn listed ∙ turned .turn))
+    let turned = is-turn (a .step) piece store out sets (now (a .text)) fits (start .pre .1) (read .result) (read .ensures .ends) in
+    let same : betweenOf (a .step) piece store out sets ≡ betweenOf (a .step) (now (a .piece)) store out sets = ap {B = Between} (λ (l : List ℕ). record { work = workOf (a .step .progress) store out sets; kept = l }) (read .ensures .kept) in
+    let told = list .last .1 .1 in
+    let t = turnIn (toldPiece (list .result) (told .0) (told .1 .0) (told .1 .1 .0) (told .1 .1 .1 .0) (told .1 .1 .1 .1 .0)) in
+    (subst (λ (o : AfterPiece). o .step .rest < 188) (sym (list .ensures)) (turned .rest), takes-turn _ _ t (readingOf (read .result) (a .step .rest) piece) (c .before .write .result) same (ap turnIn (list .ensures) ∙ turned .turn))
 
 pub read-and-list-spec : {M : Type 1} → statement M
 read-and-list-spec =
@@ -64,4 +68,5 @@ read-and-list-spec =
     same-length-2
     same-length-3
     same-length-4
+    same-length-5
     returns)

@@ -24,20 +24,20 @@ abbrev μ-loop : tie.MeasureT-loop
 loop-holds : tie.Need-loop-holds Inv-loop μ-loop
 loop-holds c = (omega arith, refl)
 
-mul-choice-fits : tie.Need-mul-choice-fits Inv-loop μ-loop
-mul-choice-fits c = search needs
+mul-fits : tie.Need-mul-fits Inv-loop μ-loop
+mul-fits c = search needs
 
-array-read-choice-fits : tie.Need-array-read-choice-fits Inv-loop μ-loop
-array-read-choice-fits c = search needs
+array-read-fits : tie.Need-array-read-fits Inv-loop μ-loop
+array-read-fits c = search needs
 
-mul-choice-fits-2 : tie.Need-mul-choice-fits-2 Inv-loop μ-loop
-mul-choice-fits-2 c = search needs
+mul-highest-choice : tie.Need-mul-highest-choice Inv-loop μ-loop
+mul-highest-choice c = search needs
 
-array-read-choice-fits-2 : tie.Need-array-read-choice-fits-2 Inv-loop μ-loop
-array-read-choice-fits-2 c = search needs
+array-read-highest-choice : tie.Need-array-read-highest-choice Inv-loop μ-loop
+array-read-highest-choice c = search needs
 
-choice-fits-requires : tie.Need-choice-fits-requires Inv-loop μ-loop
-choice-fits-requires c κs = search needs
+highest-choice-requires : tie.Need-highest-choice-requires Inv-loop μ-loop
+highest-choice-requires c κs = search needs
 
 add-i : tie.Need-add-i Inv-loop μ-loop
 add-i c = search needs
@@ -50,7 +50,7 @@ loop-again c =
     let a = c .before .before .before .args in
     let at = c .before .before .loop in
     let long : length (a .t1) ≡ 32 = search needs in
-    (omega arith, choices-go (a .t1) (a .t2) (at .i) (at .fits) (c .choice-fits .result) (omega arith) (c .choice-fits .ensures) ∙ at .inv .1)
+    (omega arith, choices-go (a .t1) (a .t2) (at .i) (at .fits) (c .highest-choice .result) (omega arith) (c .highest-choice .ensures) ∙ at .inv .1)
 
 returns : tie.Need-returns Inv-loop μ-loop
 returns c =
@@ -66,11 +66,11 @@ choices-fit-spec =
     Inv-loop
     μ-loop
     loop-holds
-    mul-choice-fits
-    array-read-choice-fits
-    mul-choice-fits-2
-    array-read-choice-fits-2
-    choice-fits-requires
+    mul-fits
+    array-read-fits
+    mul-highest-choice
+    array-read-highest-choice
+    highest-choice-requires
     add-i
     loop-less
     loop-again

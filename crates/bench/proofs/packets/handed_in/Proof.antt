@@ -8,10 +8,10 @@ use Rattle.bench.proofs.packets.handed_in.Statement.{statement}
 use Rattle.bench.proofs.packets.handed_in.Tie as tie
 
 abbrev Inv-loop : tie.InvT-loop
-Inv-loop share is-many rounds packets store₀ out₀ run₀ left₀ store out run left = (32768 ≡ length store) × (4278 ≡ length out)
+Inv-loop share is-many rounds packets store₀ out₀ sets₀ run₀ left₀ store out sets run left = (32768 ≡ length store) × (4278 ≡ length out)
 
 abbrev μ-loop : tie.MeasureT-loop
-μ-loop share is-many rounds packets store₀ out₀ run₀ left₀ store out run left = left
+μ-loop share is-many rounds packets store₀ out₀ sets₀ run₀ left₀ store out sets run left = left
 
 zeros-requires : tie.Need-zeros-requires Inv-loop μ-loop
 zeros-requires c κs = search needs

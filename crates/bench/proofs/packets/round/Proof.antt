@@ -9,10 +9,10 @@ use Rattle.bench.proofs.packets.round.Statement.{statement}
 use Rattle.bench.proofs.packets.round.Tie as tie
 
 abbrev Inv-loop : tie.InvT-loop
-Inv-loop packets store₀ out₀ state₀ sums₀ at₀ store out state sums at = (at ≤ length packets) × (length store ≡ length store₀) × (length out ≡ length out₀)
+Inv-loop packets store₀ out₀ sets₀ state₀ sums₀ at₀ store out sets state sums at = (at ≤ length packets) × (length store ≡ length store₀) × (length out ≡ length out₀)
 
 abbrev μ-loop : tie.MeasureT-loop
-μ-loop packets store₀ out₀ state₀ sums₀ at₀ store out state sums at = length packets - at
+μ-loop packets store₀ out₀ sets₀ state₀ sums₀ at₀ store out sets state sums at = length packets - at
 
 loop-holds : tie.Need-loop-holds Inv-loop μ-loop
 loop-holds c = search needs
@@ -34,6 +34,9 @@ part-packet-end c = search needs
 
 packet-requires : tie.Need-packet-requires Inv-loop μ-loop
 packet-requires c κs = search needs
+
+element-copy-out-with-answer : tie.Need-element-copy-out-with-answer Inv-loop μ-loop
+element-copy-out-with-answer c = search needs
 
 with-answer-requires : tie.Need-with-answer-requires Inv-loop μ-loop
 with-answer-requires c κs = search needs
@@ -66,6 +69,7 @@ round-spec =
     part-packet-start
     part-packet-end
     packet-requires
+    element-copy-out-with-answer
     with-answer-requires
     loop-less
     loop-again

@@ -29,12 +29,15 @@ same-length-2 c = search needs
 same-length-3 : tie.Need-same-length-3
 same-length-3 c = search needs
 
+same-length-4 : tie.Need-same-length-4
+same-length-4 c = search needs
+
 returns : tie.Need-returns
 returns c =
-    let a = c .before .before .before .before .before .before .before .before .before .before .before .before .before .before .before .before .before .before .before .args in
-    let handled = c .before .before .before .before .before .before .before .before .before .before .before .packet .ensures in
+    let a = c .before .before .before .before .before .before .before .before .before .before .before .before .before .before .before .before .before .before .before .before .before .before .before .args in
+    let handled = c .before .before .before .before .before .before .before .before .before .before .before .before .before .packet .ensures in
     record {
-      work = ap₂ {C = Work} (λ (x : AfterPacket) (i : ℕ). record { state = x .state; index = i; store = x .store; out = x .out }) handled (c .wrapping-add-u64 .ensures);
+      work = ap₂ {C = Work} (λ (x : AfterPacket) (i : ℕ). record { state = x .state; index = i; store = x .store; out = x .out; sets = x .sets }) handled (c .wrapping-add-u64 .ensures);
       text = c .before .before .before .packet2 .ensures
           ∙ ap (λ (x : AfterPacket). withBytes (upTo (a .text .now) (a .progress .at)) (linesOf (a .progress .index) (pidOf (now (a .packet))) (x .answer) (x .out))) handled;
     }
@@ -49,4 +52,5 @@ list-packet-spec =
     same-length
     same-length-2
     same-length-3
+    same-length-4
     returns)

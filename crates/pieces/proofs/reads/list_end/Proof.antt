@@ -32,18 +32,21 @@ same-length-2 c = search needs
 same-length-3 : tie.Need-same-length-3
 same-length-3 c = search needs
 
+same-length-4 : tie.Need-same-length-4
+same-length-4 c = search needs
+
 returns : tie.Need-returns
 returns c =
-    let a = c .before .before .before .before .before .before .before .before .before .before .before .before .before .before .before .before .before .before .args in
-    let w = workOf (a .step .progress) (now (a .store)) (now (a .out)) in
-    let kept = ap (λ (l : Lent). l .bytes) (c .before .before .before .before .before .before .before .before .before .before .first .ensures) in
-    let listed = c .before .before .before .before .before .before .list-packet .ensures in
-    rw (lt-ltb 0 (a .step .rest) (c .before .before .before .before .before .before .before .before .before .before .before .if1 .taken))
+    let a = c .before .before .before .before .before .before .before .before .before .before .before .before .before .before .before .before .before .before .before .before .before .before .args in
+    let w = workOf (a .step .progress) (now (a .store)) (now (a .out)) (now (a .sets)) in
+    let kept = ap (λ (l : Lent). l .bytes) (c .before .before .before .before .before .before .before .before .before .before .before .before .before .first .ensures) in
+    let listed = c .before .before .before .before .before .before .before .before .list-packet .ensures in
+    rw (lt-ltb 0 (a .step .rest) (c .before .before .before .before .before .before .before .before .before .before .before .before .before .before .if1 .taken))
     (same-outcome 0 false (listed .work ∙ ap (λ (l : List ℕ). afterCall w l) kept)
     (listed .text ∙ ap (λ (l : List ℕ). withBytes (upTo (now (a .text)) 0) (nextLines w l)) kept) refl)
 
 returns-2 : tie.Need-returns-2
-returns-2 c = rw (le-ltb 0 (c .before .before .before .before .before .before .before .args .step .rest) (c .if1 .left)) refl
+returns-2 c = rw (le-ltb 0 (c .before .before .before .before .before .before .before .before .args .step .rest) (c .if1 .left)) refl
 
 pub list-end-spec : {M : Type 1} → statement M
 list-end-spec =
@@ -54,5 +57,6 @@ list-end-spec =
     same-length
     same-length-2
     same-length-3
+    same-length-4
     returns
     returns-2)

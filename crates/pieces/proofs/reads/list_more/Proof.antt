@@ -28,10 +28,13 @@ same-length-3 c = search needs
 same-length-4 : tie.Need-same-length-4
 same-length-4 c = search needs
 
+same-length-5 : tie.Need-same-length-5
+same-length-5 c = search needs
+
 returns : tie.Need-returns
 returns c =
-    let listed = c .before .before .before .before .before .before .before .before .before .before .list-packets .ensures in
-    same-outcome (c .before .before .before .before .before .before .before .before .before .before .before .before .before .before .before .before .before .before .before .args .end % 188) true (listed .work) (listed .text) (c .before .before .move-rest .ensures)
+    let listed = c .before .before .before .before .before .before .before .before .before .before .before .before .list-packets .ensures in
+    same-outcome (c .before .before .before .before .before .before .before .before .before .before .before .before .before .before .before .before .before .before .before .before .before .before .before .args .end % 188) true (listed .work) (listed .text) (c .before .before .move-rest .ensures)
 
 pub list-more-spec : {M : Type 1} → statement M
 list-more-spec =
@@ -44,4 +47,5 @@ list-more-spec =
     same-length-2
     same-length-3
     same-length-4
+    same-length-5
     returns)

@@ -38,15 +38,15 @@ same-length-3 c = search needs
 same-length-4 : tie.Need-same-length-4
 same-length-4 c = search needs
 
-returns : tie.Need-returns
-returns c =
-    let a = c .before .before .before .before .before .before .before .before .before .before .before .before .before .before .before .before .before .before .before .before .before .before .args in
-    let w = workOf (a .step .progress) (now (a .store)) (now (a .out)) in
-    rw (c .before .before .before .before .before .before .before .before .before .before .before .before .before .before .before .before .brought .given .1)
-    (c .before .before .before .before .before .before .before .before .list-more .ensures ∙ ap (λ (end : ℕ). moreOf w end (now (a .piece)) (now (a .text))) (c .before .before .before .before .before .before .before .before .before .before .before .before .before .before .further .ensures))
-
 same-length-5 : tie.Need-same-length-5
 same-length-5 c = search needs
+
+returns : tie.Need-returns
+returns c =
+    let a = c .before .before .before .before .before .before .before .before .before .before .before .before .before .before .before .before .before .before .before .before .before .before .before .before .before .before .args in
+    let w = workOf (a .step .progress) (now (a .store)) (now (a .out)) (now (a .sets)) in
+    rw (c .before .before .before .before .before .before .before .before .before .before .before .before .before .before .before .before .before .before .before .brought .given .1)
+    (c .before .before .before .before .before .before .before .before .before .before .list-more .ensures ∙ ap (λ (end : ℕ). moreOf w end (now (a .piece)) (now (a .text))) (c .before .before .before .before .before .before .before .before .before .before .before .before .before .before .before .before .before .further .ensures))
 
 same-length-6 : tie.Need-same-length-6
 same-length-6 c = search needs
@@ -57,8 +57,14 @@ same-length-7 c = search needs
 same-length-8 : tie.Need-same-length-8
 same-length-8 c = search needs
 
+same-length-9 : tie.Need-same-length-9
+same-length-9 c = search needs
+
+same-length-10 : tie.Need-same-length-10
+same-length-10 c = search needs
+
 returns-2 : tie.Need-returns-2
-returns-2 c = rw (c .before .before .before .before .before .before .before .before .before .before .before .enum-told .given .1) (c .before .before .before .before .before .before .list-end .ensures)
+returns-2 c = rw (c .before .before .before .before .before .before .before .before .before .before .before .before .before .before .enum-told .given .1) (c .before .before .before .before .before .before .before .before .list-end .ensures)
 
 returns-3 : tie.Need-returns-3
 returns-3 c = rw (c .before .enum-told2 .given .1) refl
@@ -77,10 +83,12 @@ list-read-spec =
     same-length-2
     same-length-3
     same-length-4
-    returns
     same-length-5
+    returns
     same-length-6
     same-length-7
     same-length-8
+    same-length-9
+    same-length-10
     returns-2
     returns-3)
