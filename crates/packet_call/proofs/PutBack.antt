@@ -12,8 +12,9 @@ use Rattle.ground.proofs.Answer.{given-apart, given-same}
 use Rattle.gather.specs.Rule.{Outcome, rule}
 use Rattle.gather.specs.Kind.{join}
 use Rattle.gather.specs.Claims.{Keeps}
-use Rattle.gather.specs.Memory.{contradictsOf, soundMarks, stateOf, Result, toldGathered, Leaves, leaves, resultOf, onMemory, gatherOf}
+use Rattle.gather.specs.Memory.{contradictsOf, soundMarks, stateOf, Result, toldGathered, toldGathering, Leaves, leaves, resultOf, onMemory, gatherOf}
 use Rattle.gather.specs.declared.Gathered.{Gathered}
+use Rattle.gather.specs.declared.Gathering.{Gathering}
 use Rattle.gather.proofs.RuleKeeps.{rule-keeps}
 use Rattle.gather.proofs.Stored.{serves, house}
 use Rattle.state.specs.State.{areaStart, freeArea}
@@ -24,14 +25,17 @@ use Rattle.packet_call.specs.Packet.{AfterPacket, heldIn, setsFor, putBa
 use Rattle.packet_call.specs.Steps.{Ready, setsIn}
 use Rattle.packet_call.proofs.Sets.{sets-written}
 
--- where the first tests are passed gathering is not refused: the sizes serve, and the marks of a sound state are sound
+-- where the first tests are passed gathering is not refused: the sizes serve, and the marks of a sound state are sound; so what it answers, g, and what it leaves are the rule's
 pub gathering-serves : (s : State) (i counter : ℕ) (start : Bool) (payload store out sets : List ℕ) → length (s .areas) ≡ 8 → Ready s store out sets → i < 8 → length payload ≤ 184 → counter ≤ 15
-    → gatherOf (getD (s .areas) i freeArea .marks) counter start payload store (areaStart i) out
+    → {store′ out′ : List ℕ} {answer g : Gathering} → g ≡ answer → leaves (toldGathering answer) store′ out′ ≡ gatherOf (getD (s .areas) i freeArea .marks) counter start payload store (areaStart i) out
+    → leaves (toldGathering g) store′ out′
     ≡ onMemory (rule (stateOf (getD (s .areas) i freeArea .marks) store (areaStart i)) (record { counter = counter; start = start; payload = payload })) store (areaStart i) out
-gathering-serves s i counter start payload store out sets eight ready inside short few =
+gathering-serves s i counter start payload store out sets eight ready inside short few {store′} {out′} known e =
     let m = getD (s .areas) i freeArea .marks in
     let fine : soundMarks m ≡ true = area-marks s (sound-tells s (ready .fine)) i (omega arith) in
-    serves m counter start payload store (areaStart i) out (house m payload store i out fine (ready .whole) inside short (ready .room)) fine few
+    ap (λ (r : Gathering). leaves (toldGathering r) store′ out′) known
+    ∙ e
+    ∙ serves m counter start payload store (areaStart i) out (house m payload store i out fine (ready .whole) inside short (ready .room)) fine few
 
 -- gathering that is done is no refusal
 pub done-apart : (o : Outcome) (store out store′ out′ : List ℕ) (i n : ℕ) → leaves (refused n) store′ out′ ≡ onMemory o store (areaStart i) out → ⊥

@@ -10,8 +10,7 @@ use borrow.Author.Needs.{needs}
 use Rattle.ground.specs.Write.{put}
 use Rattle.ground.proofs.Walk.{mapped-length}
 use Rattle.gather.specs.Rule.{Outcome, rule}
-use Rattle.gather.specs.Memory.{stateOf, toldGathering, Leaves, leaves}
-use Rattle.gather.specs.declared.Gathering.{Gathering}
+use Rattle.gather.specs.Memory.{stateOf, Leaves}
 use Rattle.state.specs.State.{areaStart, freeArea}
 use Rattle.state.specs.Choice.{placesOf}
 use Rattle.packet_call.specs.Steps.{setsIn}
@@ -62,8 +61,7 @@ tell-places-requires c κs =
     let out = now (a .out) in
     let long : length (s .areas) ≡ 8 = search (needs, mapped-length, good) in
     let o : Outcome = rule (stateOf (getD (s .areas) (a .i) freeArea .marks) store (areaStart (a .i))) (record { counter = a .counter; start = a .start; payload = payload }) in
-    let served = gather .ensures ∙ gathering-serves s (a .i) (a .counter) (a .start) payload store out (now (a .sets)) long (pre .0) (pre .1 .0) (pre .1 .1) (pre .1 .2) in
-    let left = ap (λ (r : Gathering). leaves (toldGathering r) (gather .last .1 .1 .1 .1 .0) (gather .last .1 .1 .1 .1 .1 .1 .0)) (sym (gathering2 .given .1)) ∙ served in
+    let left = gathering-serves s (a .i) (a .counter) (a .start) payload store out (now (a .sets)) long (pre .0) (pre .1 .0) (pre .1 .1) (pre .1 .2) (sym (gathering2 .given .1)) (gather .ensures) in
     let many = counted-is o store out _ _ (a .i) (gathering2 .given .0 .0) left in
     let few = sections-few s (a .i) (a .counter) (a .start) payload store (pre .1 .1) (pre .1 .3) in
     omega (arith, many, few, pre .0 .listed)
@@ -87,11 +85,8 @@ returns c =
     let out = now (a .out) in
     let long : length (s .areas) ≡ 8 = search (needs, mapped-length, good) in
     let o : Outcome = rule (stateOf (getD (s .areas) (a .i) freeArea .marks) store (areaStart (a .i))) (record { counter = a .counter; start = a .start; payload = payload }) in
-    let served = gather .ensures ∙ gathering-serves s (a .i) (a .counter) (a .start) payload store out (now (a .sets)) long (pre .0) (pre .1 .0) (pre .1 .1) (pre .1 .2) in
-    absurd
-    (done-apart o store out _ _ (a .i) _
-    (ap (λ (r : Gathering). leaves (toldGathering r) (gather .last .1 .1 .1 .1 .0) (gather .last .1 .1 .1 .1 .1 .1 .0)) (sym (gathering .given .1))
-    ∙ served))
+    let left = gathering-serves s (a .i) (a .counter) (a .start) payload store out (now (a .sets)) long (pre .0) (pre .1 .0) (pre .1 .1) (pre .1 .2) (sym (gathering .given .1)) (gather .ensures) in
+    absurd (done-apart o store out _ _ (a .i) _ left)
 
 same-length-3 : tie.Need-same-length-3
 same-length-3 c = search needs
@@ -116,8 +111,7 @@ returns-2 c =
     let sets = now (a .sets) in
     let long : length (s .areas) ≡ 8 = search (needs, mapped-length, good) in
     let o : Outcome = rule (stateOf (getD (s .areas) (a .i) freeArea .marks) store (areaStart (a .i))) (record { counter = a .counter; start = a .start; payload = payload }) in
-    let served = gather .ensures ∙ gathering-serves s (a .i) (a .counter) (a .start) payload store out sets long (pre .0) (pre .1 .0) (pre .1 .1) (pre .1 .2) in
-    let left = ap (λ (r : Gathering). leaves (toldGathering r) (gather .last .1 .1 .1 .1 .0) (gather .last .1 .1 .1 .1 .1 .1 .0)) (sym (gathering2 .given .1)) ∙ served in
+    let left = gathering-serves s (a .i) (a .counter) (a .start) payload store out sets long (pre .0) (pre .1 .0) (pre .1 .1) (pre .1 .2) (sym (gathering2 .given .1)) (gather .ensures) in
     let many = counted-is o store out _ _ (a .i) (gathering2 .given .0 .0) left in
     taken-is s (a .i) o store out sets _ _ _ (gathering2 .given .0 .0) left
     (c .before .before .tell-places .ensures
