@@ -1,4 +1,4 @@
--- A set of places fits as many bits as there are places, and has a place exactly where what stands there passes.
+-- A set of places fits as many bits as there are places, has a place exactly where what stands there passes, and its lowest place is the first such.
 -- Assumes nothing.
 use mathlib.Core.Path.{_≡_, refl, sym, _∙_, ap, ap₂}
 use mathlib.Core.Bool.{Bool, true, false, cond}
@@ -10,20 +10,31 @@ use native.Mathlib.Omega.{arith}
 use lib.Dec.{eqb, lit<}
 use lib.ListN.{length, drop, getD, drop-of-length-le}
 use lib.Seq.{drop-cons}
+use lib.Count.{trailingZeros, under}
 use Rattle.ground.specs.Set.{setOf, isIn}
+use Rattle.ground.specs.Walk.{find}
 
 pub bit-lt : (b : Bool) → cond b 1 0 < 2
 bit-lt true = lit< tt
 bit-lt false = lit< tt
 
 -- ---- one bit and the others
-low : (b : Bool) (rest : ℕ) → eqb ((cond b 1 0 + 2 * rest) % 2) 1 ≡ b
-low true rest = rw (add-mul-mod-self-left 1 2 rest)
-low false rest = rw (add-mul-mod-self-left 0 2 rest)
+low : (b : Bool) (rest : ℕ) → (cond b 1 0 + 2 * rest) % 2 ≡ cond b 1 0
+low true rest = add-mul-mod-self-left 1 2 rest
+low false rest = add-mul-mod-self-left 0 2 rest
 
 high : (b : Bool) (rest : ℕ) → (cond b 1 0 + 2 * rest) / 2 ≡ rest
 high true rest = add-mul-div-left 1 rest (lit< tt) ∙ zero-add rest
 high false rest = add-mul-div-left 0 rest (lit< tt) ∙ zero-add rest
+
+-- the bit is set, or the count of zeros goes on above it
+set-bit : (b : Bool) → eqb (cond b 1 0) 1 ≡ b
+set-bit true = refl
+set-bit false = refl
+
+under-bit : (b : Bool) (above : ℕ) → under (cond b 1 0) above ≡ cond b 0 (suc above)
+under-bit true above = refl
+under-bit false above = refl
 
 module _ {ℓ} {A : Type ℓ} (p : A → Bool) where
   pub set-lt : (l : List A) → setOf p l < 2 ^ length l
@@ -56,13 +67,26 @@ module _ {ℓ} {A : Type ℓ} (p : A → Bool) where
   -- a place is in the set exactly where what stands there passes; past the last place stands what does not
   pub in-set : (l : List A) (k : ℕ) (d : A) → p d ≡ false → isIn k (setOf p l) ≡ p (getD l k d)
   in-set [] k d no-pass = rw (zero-div (2 ^ k)) (sym no-pass)
-  in-set (x ∷ xs) zero d no-pass = rw (div-one (cond (p x) 1 0 + 2 * setOf p xs)) (low (p x) (setOf p xs))
+  in-set (x ∷ xs) zero d no-pass = rw (div-one (cond (p x) 1 0 + 2 * setOf p xs), low (p x) (setOf p xs)) (set-bit (p x))
   in-set (x ∷ xs) (suc k) d no-pass =
       ap (λ (n : ℕ). eqb (n % 2) 1)
       (ap (λ (n : ℕ). (cond (p x) 1 0 + 2 * setOf p xs) / n) (pow-succ' 2 k)
       ∙ sym (div-div-eq-div-mul (cond (p x) 1 0 + 2 * setOf p xs) 2 (2 ^ k))
       ∙ ap (λ (n : ℕ). n / 2 ^ k) (high (p x) (setOf p xs)))
       ∙ in-set xs k d no-pass
+
+-- so many zeros stand below the lowest place of a set as a search for it goes over in vain
+pub trailing-find {ℓ} : {A : Type ℓ} (p : A → Bool) (l : List A) → trailingZeros (length l) (setOf p l) ≡ find p l
+unfolding trailingZeros
+trailing-find p [] = refl
+trailing-find p (x ∷ xs) =
+    ap₂ under (low (p x) (setOf p xs)) (ap (trailingZeros (length xs)) (high (p x) (setOf p xs)) ∙ trailing-find p xs)
+    ∙ under-bit (p x) (find p xs)
+
+-- the lowest of 32 places: in the set of all, without 0, 1 and 2, without 0, 2 and 3, of 31 alone, of none
+lowest : map (trailingZeros 32) (4294967295 ∷ 4294967288 ∷ 4294967282 ∷ 2147483648 ∷ 0 ∷ []) ≡ 0 ∷ 3 ∷ 1 ∷ 31 ∷ 32 ∷ []
+unfolding trailingZeros
+lowest = refl
 
 -- a set hangs on the tests alone
 pub set-tests {ℓ} : {A : Type ℓ} (p : A → Bool) (l : List A) → setOf p l ≡ setOf (λ (b : Bool). b) (map p l)

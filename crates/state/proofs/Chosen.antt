@@ -60,6 +60,11 @@ placed-at (f ∷ filters) choices (suc j) h =
     placed-at filters (drop 1 choices) j (le-of-suc-le-suc h)
     ∙ ap (λ (c : ℕ). record { filter = getD filters j freeFilter; choice = c }) (getD-drop 1 choices j 0 ∙ ap (λ (n : ℕ). getD choices n 0) (one-add j))
 
+-- whom a section is for is told by the record at a place
+pub for-placed : (i table : ℕ) (filters : List Filter) (choices : List ℕ) (j : ℕ) → j < length filters
+    → isFor i table (record { filter = getD filters j freeFilter; choice = getD choices j 0 }) ≡ isFor i table (getD (placed filters choices) j freePlace)
+for-placed i table filters choices j h = ap (isFor i table) (sym (placed-at filters choices j h))
+
 -- ---- soundness
 -- a sound choice's number is at most 255
 pub sound-code : (code : ℕ) → soundChoice (choiceOf code) ≡ leb code 255

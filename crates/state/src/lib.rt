@@ -1,6 +1,8 @@
 // What the driver's state holds, a fresh one, the lowest area or place that passes a test, or the number of them where none does, and the set of places that a section is for.
 ghost use mathlib.Core.Path.{_≡_};
 ghost use mathlib.Core.Bool.{cond};
+ghost use Rattle.ground.specs.Set.{setOf};
+ghost use Rattle.state.specs.State.{isFree};
 ghost use Rattle.state.specs.Choice.{isFor};
 ghost use Rattle.state.specs.Promises.{MakesFresh, FindsArea, FindsFreeArea, FindsFreePlace, FindsPlace, TellsPlaces};
 use gather::Marks;
@@ -108,19 +110,32 @@ pub fn free_area(areas: [Area; AREAS]) -> usize
     AREAS
 }
 
-// The lowest free place.
-pub fn free_place(filters: [Filter; PLACES]) -> usize
-    ensures { λ r. ⌜ FindsFreePlace filters r ⌝ }
+// Whether a place is free, as a number.
+fn is_free(filter: Filter) -> u32
+    ensures { λ r. ⌜ r ≡ cond (isFree filter) 1 0 ⌝ }
 {
+    (filter.number == 0) as u32
+}
+
+// The set of free places, the first place the least significant bit.
+fn free_places(filters: [Filter; PLACES]) -> u32
+    ensures { λ r. ⌜ r ≡ setOf isFree filters ⌝ }
+{
+    let mut places: u32 = 0;
     let mut i: usize = 0;
     while i < PLACES {
         let filter = filters[i];
-        if filter.number == 0 {
-            return i;
-        }
+        places = places + (is_free(filter) << (i as u32));
         i += 1;
     }
-    PLACES
+    places
+}
+
+// The lowest free place: so many zeros stand below the lowest bit of the set of free places, and 32 where that has none.
+pub fn free_place(filters: [Filter; PLACES]) -> usize
+    ensures { λ r. ⌜ FindsFreePlace filters r ⌝ }
+{
+    u32::trailing_zeros(free_places(filters)) as usize
 }
 
 // The place of an open filter by its number.

@@ -1,12 +1,14 @@
 -- The set of the places passed and what is left of it make up the whole.
 -- Assumes nothing.
-use mathlib.Core.Path.{_≡_, _∙_}
+use mathlib.Core.Path.{_≡_, _∙_, ap}
+use mathlib.Core.Bool.{Bool, cond}
 use Prim.Native.Nat.{_+_, _-_, _*_, _^_, _≤_}
 use native.Mathlib.Omega.{arith}
 use native.Mathlib.Nat.{zero-add, one-mul}
 use lib.ListN.{length, drop}
 use borrow.Author.Needs.{needs}
-use Rattle.state.specs.Choice.{placed, placesFor}
+use Rattle.state.specs.Choice.{placed, freePlace, isFor, placesFor}
+use Rattle.state.proofs.Chosen.{placed-length, for-placed}
 use Rattle.state.proofs.Places.{places-go, places-room, places-end}
 use Rattle.state.proofs.places_for.Statement.{statement}
 use Rattle.state.proofs.places_for.Tie as tie
@@ -44,9 +46,11 @@ shl-places c = search needs
 add-places : tie.Need-add-places Inv-loop μ-loop
 add-places c =
     let a = c .before .before .before .before .args in
-    let l = c .before .before .before .loop in
+    let at = c .before .before .before .loop in
     let long : length (a .t1) ≡ 32 = search needs in
-    let room = places-room (a .area) (a .table) (a .t1) (a .t2) (l .i) (l .places) long (l .inv .1) (c .is-for .result) (c .before .before .loop-test .taken) (c .is-for .ensures) in
+    let size : length (placed (a .t1) (a .t2)) ≡ 32 = placed-length (a .t1) (a .t2) ∙ long in
+    let its = c .is-for .ensures ∙ ap (λ (b : Bool). cond b 1 0) (for-placed (a .area) (a .table) (a .t1) (a .t2) (at .i) (omega arith)) in
+    let room = places-room (isFor (a .area) (a .table)) (placed (a .t1) (a .t2)) (at .i) (at .places) size (at .inv .1) freePlace (c .is-for .result) (omega arith) its in
     omega arith
 
 add-i : tie.Need-add-i Inv-loop μ-loop
@@ -58,17 +62,18 @@ loop-less c = search needs
 loop-again : tie.Need-loop-again Inv-loop μ-loop
 loop-again c =
     let a = c .before .before .before .before .args in
-    let l = c .before .before .before .loop in
-    let long : length (a .t1) ≡ 32 = search needs in (
-      omega arith,
-      places-go (a .area) (a .table) (a .t1) (a .t2) (l .i) (l .places) long (l .inv .1) (c .is-for .result) (c .before .before .loop-test .taken) (c .is-for .ensures),
-    )
+    let at = c .before .before .before .loop in
+    let long : length (a .t1) ≡ 32 = search needs in
+    let size : length (placed (a .t1) (a .t2)) ≡ 32 = placed-length (a .t1) (a .t2) ∙ long in
+    let its = c .is-for .ensures ∙ ap (λ (b : Bool). cond b 1 0) (for-placed (a .area) (a .table) (a .t1) (a .t2) (at .i) (omega arith)) in
+    (omega arith, places-go (isFor (a .area) (a .table)) (placed (a .t1) (a .t2)) (at .i) (at .places) size (at .inv .1) freePlace (c .is-for .result) (omega arith) its)
 
 returns : tie.Need-returns Inv-loop μ-loop
 returns c =
     let a = c .before .before .args in
+    let at = c .before .loop in
     let long : length (a .t1) ≡ 32 = search needs in
-    places-end (a .area) (a .table) (a .t1) (a .t2) (c .before .loop .i) (c .before .loop .places) long (c .before .loop .inv .1) (omega arith)
+    places-end (isFor (a .area) (a .table)) (placed (a .t1) (a .t2)) (at .i) (at .places) (placed-length (a .t1) (a .t2) ∙ long) (at .inv .1) (omega arith)
 
 pub places-for-spec : {M : Type 1} → statement M
 places-for-spec =
