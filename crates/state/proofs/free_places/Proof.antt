@@ -1,25 +1,23 @@
--- The set of the places passed and what is left of it make up the whole.
+-- The places are passed one by one, and each bit is that of a free place.
 -- Assumes nothing.
-use mathlib.Core.Path.{_≡_, _∙_}
-use Prim.Native.Nat.{_+_, _-_, _*_, _^_, _≤_}
+use mathlib.Core.Path.{_≡_}
+use Prim.Native.Nat.{_-_}
 use native.Mathlib.Omega.{arith}
-use native.Mathlib.Nat.{zero-add, one-mul}
-use lib.ListN.{length, drop}
+use lib.ListN.{length}
 use borrow.Author.Needs.{needs}
-use Rattle.ground.specs.Set.{setOf}
 use Rattle.state.specs.State.{freeFilter, isFree}
-use Rattle.state.proofs.Places.{places-go, places-room, places-end}
+use Rattle.state.proofs.Places.{Passed, set-begins, place-passed, place-fits, all-passed}
 use Rattle.state.proofs.free_places.Statement.{statement}
 use Rattle.state.proofs.free_places.Tie as tie
 
 abbrev Inv-loop : tie.InvT-loop
-Inv-loop filters places₀ i₀ places i = (i ≤ 32) × (places + 2 ^ i * setOf isFree (drop i filters) ≡ setOf isFree filters)
+Inv-loop filters places₀ i₀ places i = Passed isFree filters i places
 
 abbrev μ-loop : tie.MeasureT-loop
 μ-loop filters places₀ i₀ places i = 32 - i
 
 loop-holds : tie.Need-loop-holds Inv-loop μ-loop
-loop-holds c = (omega arith, zero-add _ ∙ one-mul _)
+loop-holds c = set-begins isFree (c .args .t1)
 
 mul-filter : tie.Need-mul-filter Inv-loop μ-loop
 mul-filter c = search needs
@@ -40,8 +38,8 @@ add-places : tie.Need-add-places Inv-loop μ-loop
 add-places c =
     let l = c .before .before .before .before .args .t1 in
     let at = c .before .before .before .loop in
-    let long : length l ≡ 32 = search needs in
-    let room = places-room isFree l (at .i) (at .places) long (at .inv .1) freeFilter (c .is-free .result) (omega arith) (c .is-free .ensures) in
+    let size : length l ≡ 32 = search needs in
+    let fits = place-fits isFree l size (at .i) (at .places) (at .inv) freeFilter (c .is-free .result) (omega arith) (c .is-free .ensures) in
     omega arith
 
 add-i : tie.Need-add-i Inv-loop μ-loop
@@ -54,15 +52,15 @@ loop-again : tie.Need-loop-again Inv-loop μ-loop
 loop-again c =
     let l = c .before .before .before .before .args .t1 in
     let at = c .before .before .before .loop in
-    let long : length l ≡ 32 = search needs in
-    (omega arith, places-go isFree l (at .i) (at .places) long (at .inv .1) freeFilter (c .is-free .result) (omega arith) (c .is-free .ensures))
+    let size : length l ≡ 32 = search needs in
+    place-passed isFree l size (at .i) (at .places) (at .inv) freeFilter (c .is-free .result) (omega arith) (c .is-free .ensures)
 
 returns : tie.Need-returns Inv-loop μ-loop
 returns c =
     let l = c .before .before .args .t1 in
     let at = c .before .loop in
-    let long : length l ≡ 32 = search needs in
-    places-end isFree l (at .i) (at .places) long (at .inv .1) (omega arith)
+    let size : length l ≡ 32 = search needs in
+    all-passed isFree l size (at .i) (at .places) (at .inv) (omega arith)
 
 pub free-places-spec : {M : Type 1} → statement M
 free-places-spec =

@@ -1,26 +1,25 @@
--- The set of the places passed and what is left of it make up the whole.
+-- The places are passed one by one, and each bit says whom a section is for.
 -- Assumes nothing.
 use mathlib.Core.Path.{_≡_, _∙_, ap}
 use mathlib.Core.Bool.{Bool, cond}
-use Prim.Native.Nat.{_+_, _-_, _*_, _^_, _≤_}
+use Prim.Native.Nat.{_-_}
 use native.Mathlib.Omega.{arith}
-use native.Mathlib.Nat.{zero-add, one-mul}
-use lib.ListN.{length, drop}
+use lib.ListN.{length}
 use borrow.Author.Needs.{needs}
-use Rattle.state.specs.Choice.{placed, freePlace, isFor, placesFor}
+use Rattle.state.specs.Choice.{placed, freePlace, isFor}
 use Rattle.state.proofs.Chosen.{placed-length, for-placed}
-use Rattle.state.proofs.Places.{places-go, places-room, places-end}
+use Rattle.state.proofs.Places.{Passed, set-begins, place-passed, place-fits, all-passed}
 use Rattle.state.proofs.places_for.Statement.{statement}
 use Rattle.state.proofs.places_for.Tie as tie
 
 abbrev Inv-loop : tie.InvT-loop
-Inv-loop area table filters choices places₀ i₀ places i = (i ≤ 32) × (places + 2 ^ i * placesFor area table (drop i (placed filters choices)) ≡ placesFor area table (placed filters choices))
+Inv-loop area table filters choices places₀ i₀ places i = Passed (isFor area table) (placed filters choices) i places
 
 abbrev μ-loop : tie.MeasureT-loop
 μ-loop area table filters choices places₀ i₀ places i = 32 - i
 
 loop-holds : tie.Need-loop-holds Inv-loop μ-loop
-loop-holds c = (omega arith, zero-add _ ∙ one-mul _)
+loop-holds c = set-begins (isFor (c .args .area) (c .args .table)) (placed (c .args .t1) (c .args .t2))
 
 mul-filter : tie.Need-mul-filter Inv-loop μ-loop
 mul-filter c = search needs
@@ -48,9 +47,9 @@ add-places c =
     let a = c .before .before .before .before .args in
     let at = c .before .before .before .loop in
     let long : length (a .t1) ≡ 32 = search needs in
-    let size : length (placed (a .t1) (a .t2)) ≡ 32 = placed-length (a .t1) (a .t2) ∙ long in
-    let its = c .is-for .ensures ∙ ap (λ (b : Bool). cond b 1 0) (for-placed (a .area) (a .table) (a .t1) (a .t2) (at .i) (omega arith)) in
-    let room = places-room (isFor (a .area) (a .table)) (placed (a .t1) (a .t2)) (at .i) (at .places) size (at .inv .1) freePlace (c .is-for .result) (omega arith) its in
+    let size = placed-length (a .t1) (a .t2) ∙ long in
+    let is = c .is-for .ensures ∙ ap (λ (b : Bool). cond b 1 0) (for-placed (a .area) (a .table) (a .t1) (a .t2) (at .i) (omega arith)) in
+    let fits = place-fits (isFor (a .area) (a .table)) (placed (a .t1) (a .t2)) size (at .i) (at .places) (at .inv) freePlace (c .is-for .result) (omega arith) is in
     omega arith
 
 add-i : tie.Need-add-i Inv-loop μ-loop
@@ -64,16 +63,16 @@ loop-again c =
     let a = c .before .before .before .before .args in
     let at = c .before .before .before .loop in
     let long : length (a .t1) ≡ 32 = search needs in
-    let size : length (placed (a .t1) (a .t2)) ≡ 32 = placed-length (a .t1) (a .t2) ∙ long in
-    let its = c .is-for .ensures ∙ ap (λ (b : Bool). cond b 1 0) (for-placed (a .area) (a .table) (a .t1) (a .t2) (at .i) (omega arith)) in
-    (omega arith, places-go (isFor (a .area) (a .table)) (placed (a .t1) (a .t2)) (at .i) (at .places) size (at .inv .1) freePlace (c .is-for .result) (omega arith) its)
+    let size = placed-length (a .t1) (a .t2) ∙ long in
+    let is = c .is-for .ensures ∙ ap (λ (b : Bool). cond b 1 0) (for-placed (a .area) (a .table) (a .t1) (a .t2) (at .i) (omega arith)) in
+    place-passed (isFor (a .area) (a .table)) (placed (a .t1) (a .t2)) size (at .i) (at .places) (at .inv) freePlace (c .is-for .result) (omega arith) is
 
 returns : tie.Need-returns Inv-loop μ-loop
 returns c =
     let a = c .before .before .args in
     let at = c .before .loop in
     let long : length (a .t1) ≡ 32 = search needs in
-    places-end (isFor (a .area) (a .table)) (placed (a .t1) (a .t2)) (at .i) (at .places) (placed-length (a .t1) (a .t2) ∙ long) (at .inv .1) (omega arith)
+    all-passed (isFor (a .area) (a .table)) (placed (a .t1) (a .t2)) (placed-length (a .t1) (a .t2) ∙ long) (at .i) (at .places) (at .inv) (omega arith)
 
 pub places-for-spec : {M : Type 1} → statement M
 places-for-spec =
