@@ -131,7 +131,7 @@ fn free_places(filters: [Filter; PLACES]) -> u32
     places
 }
 
-// The lowest free place: so many zeros stand below the lowest bit of the set of free places, and 32 where that has none.
+// The lowest free place: below it every bit of the set of free places is 0, and where none is free all 32 are.
 pub fn free_place(filters: [Filter; PLACES]) -> usize
     ensures { λ r. ⌜ FindsFreePlace filters r ⌝ }
 {
