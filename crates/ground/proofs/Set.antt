@@ -2,13 +2,13 @@
 -- Assumes nothing.
 use mathlib.Core.Path.{_≡_, refl, sym, _∙_, ap, ap₂}
 use mathlib.Core.Bool.{Bool, true, false, cond}
-use mathlib.Core.List.{List, [], _∷_, map}
+use mathlib.Core.List.{List, [], _∷_, _++_, map}
 use Prim.Native.Nat.{ℕ, zero, suc, _+_, _*_, _/_, _%_, _^_, _≤_, _<_}
 use native.Mathlib.Nat.{pow-suc, pow-succ', mul-add, mul-comm, mul-assoc, mul-zero, add-assoc, add-zero, div-one, zero-div, div-div-eq-div-mul, add-mul-div-left, add-mul-mod-self-left, zero-add}
 use native.Mathlib.Numerals.{add-one}
 use native.Mathlib.Omega.{arith}
 use lib.Dec.{eqb, lit<}
-use lib.ListN.{length, drop, getD, drop-of-length-le}
+use lib.ListN.{length, drop, getD, replicate, drop-of-length-le}
 use lib.Seq.{drop-cons}
 use lib.Count.{trailingZeros, under}
 use Rattle.ground.specs.Set.{setOf, isIn}
@@ -75,7 +75,7 @@ module _ {ℓ} {A : Type ℓ} (p : A → Bool) where
       ∙ ap (λ (n : ℕ). n / 2 ^ k) (high (p x) (setOf p xs)))
       ∙ in-set xs k d no-pass
 
--- so many zeros stand below the lowest place of a set as a search for it goes over in vain
+-- below the lowest place of a set stand as many zeros as a search for that place passes over
 pub trailing-find {ℓ} : {A : Type ℓ} (p : A → Bool) (l : List A) → trailingZeros (length l) (setOf p l) ≡ find p l
 unfolding trailingZeros
 trailing-find p [] = refl
@@ -83,7 +83,19 @@ trailing-find p (x ∷ xs) =
     ap₂ under (low (p x) (setOf p xs)) (ap (trailingZeros (length xs)) (high (p x) (setOf p xs)) ∙ trailing-find p xs)
     ∙ under-bit (p x) (find p xs)
 
--- the lowest of 32 places: in the set of all, without 0, 1 and 2, without 0, 2 and 3, of 31 alone, of none
+-- of 32 places all pass; all but 0, 1 and 2; all but 0, 2 and 3; 31 alone; none: the sets, and the lowest place of each
+sets :
+    map
+    (setOf (λ (b : Bool). b))
+    (replicate 32 true
+    ∷ (replicate 3 false ++ replicate 29 true)
+    ∷ (false ∷ true ∷ false ∷ false ∷ replicate 28 true)
+    ∷ (replicate 31 false ++ true ∷ [])
+    ∷ replicate 32 false
+    ∷ [])
+    ≡ 4294967295 ∷ 4294967288 ∷ 4294967282 ∷ 2147483648 ∷ 0 ∷ []
+sets = refl
+
 lowest : map (trailingZeros 32) (4294967295 ∷ 4294967288 ∷ 4294967282 ∷ 2147483648 ∷ 0 ∷ []) ≡ 0 ∷ 3 ∷ 1 ∷ 31 ∷ 32 ∷ []
 unfolding trailingZeros
 lowest = refl
