@@ -1,24 +1,26 @@
 //! Counts what outcomes hold, and names what they lack.
 
+mod extensions;
 mod sets;
 mod states;
 
 use std::collections::BTreeMap;
 use std::io::{self, BufRead, Write};
 
+use extensions::inside;
 use sets::nobody;
 use states::{Shown, States};
 
 /// The least number of outcomes of each call word.
 const LEAST: u64 = 20_000;
 
-/// Each call word with the refusals that its order in document 01 has, with request 2 of document 02.
-const CALLS: [(&str, &[u32]); 22] = [
+/// Each call word with the refusals that its order in document 01 has, with requests 2 and 6 of document 02.
+const CALLS: [(&str, &[u32]); 23] = [
     ("open", &[1, 12, 17, 13, 14, 15]),
     ("close", &[1, 16]),
-    ("packet", &[1, 3, 2, 4, 5, 6, 7, 8, 9, 10, 11]),
+    ("packet", &[1, 3, 2, 4, 5, 6, 7, 8, 36, 9, 10, 11]),
     ("pid", &[12]),
-    ("alone", &[2, 4, 5, 6, 7, 8]),
+    ("alone", &[2, 4, 5, 6, 7, 8, 36]),
     ("pat", &[20, 23, 21, 25, 22, 24, 26]),
     ("patitem", &[20, 23, 21, 25, 22, 24, 26, 27]),
     ("programs", &[3, 20, 23, 21, 25, 22, 24, 26]),
@@ -31,6 +33,7 @@ const CALLS: [(&str, &[u32]); 22] = [
     ("crc", &[]),
     ("pes", &[30, 31, 32, 37, 33, 34, 35, 36]),
     ("stamp", &[40, 41, 36]),
+    ("anystamp", &[41, 36]),
     ("setstamp", &[40, 41]),
     ("clock", &[41, 8]),
     ("setclock", &[40, 41]),
@@ -39,7 +42,7 @@ const CALLS: [(&str, &[u32]); 22] = [
 ];
 
 /// Things that must occur beside the refusals.
-const MARKS: [&str; 20] = [
+const MARKS: [&str; 25] = [
     "wanted",
     "unwanted",
     "jump",
@@ -53,6 +56,11 @@ const MARKS: [&str; 20] = [
     "part61",
     "begun",
     "nobody",
+    "unwanted36",
+    "window",
+    "rate",
+    "splice",
+    "unflagged",
     "given",
     "closed",
     "right",
@@ -96,15 +104,24 @@ impl Counts {
             self.add("repeated");
         }
         match parts.get(1) {
-            Some(&"refused") => {
-                let number = parts.get(2).copied().unwrap_or("-");
-                self.add(&format!("refused {}", number));
-                self.add(&format!("{} {}", parts[0], number));
-            }
+            Some(&"refused") => self.refused(&parts),
             Some(&"wanted") => self.wanted(&parts, &shown),
+            Some(_) if parts[0] == "alone" => {
+                inside(&parts).into_iter().for_each(|mark| self.add(mark))
+            }
             Some(word) if MARKS.contains(word) => self.add(word),
             _ if line == "bad" => self.add("bad"),
             _ => {}
+        }
+    }
+
+    fn refused(&mut self, parts: &[&str]) {
+        let number = parts.get(2).copied().unwrap_or("-");
+        self.add(&format!("refused {}", number));
+        self.add(&format!("{} {}", parts[0], number));
+        // Where no area is in use, nobody wants the packet.
+        if parts[0] == "packet" && number == "36" && !parts.contains(&"area") {
+            self.add("unwanted36");
         }
     }
 

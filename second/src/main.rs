@@ -1,5 +1,6 @@
 //! A second, independent program for the rules of document 01.
 
+mod bits;
 mod bytes;
 mod coverage;
 mod exercise;

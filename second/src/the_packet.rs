@@ -1,9 +1,14 @@
-//! Document 01, "The packet".
+//! Document 01, "The packet", with request 6 of document 02.
+
+mod extension;
 
 use crate::bytes::number_in;
 use crate::numbers_of_the_house::{LAST_PID, PACKET_BYTES};
 use crate::refusal_numbers::{demand, Refusal};
-use crate::time::{clock_field, CLOCK_BYTES};
+use crate::time::{clock_field, AnyStamp, StampField, CLOCK_BYTES};
+use extension::{read_extension, Extension};
+
+pub use extension::Window;
 
 /// A part of the packet by its first byte's place and its size.
 #[derive(Clone, Copy, Debug, PartialEq, Eq)]
@@ -23,6 +28,9 @@ pub struct Adaptation {
     pub countdown: Option<i8>,
     pub private_data: Option<Part>,
     pub extension: Option<Part>,
+    pub window: Option<Window>,
+    pub rate: Option<u64>,
+    pub splice: Option<AnyStamp>,
 }
 
 #[derive(Clone, Debug, PartialEq, Eq)]
@@ -81,18 +89,29 @@ fn read_adaptation(packet: &[u8], control: u8) -> Result<Adaptation, Refusal> {
     if length == 0 {
         return Ok(Adaptation::default());
     }
+    read_flagged(packet, length)
+}
+
+/// The field from its flags byte on.
+fn read_flagged(packet: &[u8], length: usize) -> Result<Adaptation, Refusal> {
     let flags = number_in(packet, 5, 1);
+    let flagged = |bit: u32| flags / 2u64.pow(bit) % 2 == 1;
     let parts = flagged_parts(packet, flags);
     demand(parts[5] <= 5 + length, 7)?;
-    let flagged = |bit: u32| flags / 2u64.pow(bit) % 2 == 1;
-    let clock = read_flagged_clock(packet, flagged(4), parts[0])?;
-    let original_clock = read_flagged_clock(packet, flagged(3), parts[1])?;
     let inner = |bit: u32, start: usize| {
         flagged(bit).then(|| Part {
             start: start + 1,
             size: number_in(packet, start, 1) as usize,
         })
     };
+    let extension = inner(0, parts[4]);
+    let inside = match extension {
+        Some(part) => read_extension(&packet[part.start..part.start + part.size])?,
+        None => Extension::default(),
+    };
+    let clock = read_flagged_clock(packet, flagged(4), parts[0])?;
+    let original_clock = read_flagged_clock(packet, flagged(3), parts[1])?;
+    let splice = inside.splice.map(StampField::any).transpose()?;
     Ok(Adaptation {
         length,
         discontinuity: flagged(7),
@@ -102,7 +121,10 @@ fn read_adaptation(packet: &[u8], control: u8) -> Result<Adaptation, Refusal> {
         original_clock,
         countdown: flagged(2).then(|| number_in(packet, parts[2], 1) as u8 as i8),
         private_data: inner(1, parts[3]),
-        extension: inner(0, parts[4]),
+        extension,
+        window: inside.window,
+        rate: inside.rate,
+        splice,
     })
 }
 

@@ -1,5 +1,6 @@
-//! Document 01, "Time".
+//! Document 01, "Time", with request 6 of document 02.
 
+use crate::bits::Bits;
 use crate::bytes::number_in;
 use crate::numbers_of_the_house::{CLOCK_TURN, STAMP_TURN};
 use crate::refusal_numbers::{demand, Refusal};
@@ -7,23 +8,47 @@ use crate::refusal_numbers::{demand, Refusal};
 pub const STAMP_BYTES: usize = 5;
 pub const CLOCK_BYTES: usize = 6;
 
-/// What a 40-bit stamp field says, without a word on whether it is right.
+/// The widths of a stamp field's pieces: four bits that are no part of the stamp, then three pieces of it, each with its marker.
+pub const STAMP_WIDTHS: [usize; 7] = [4, 3, 1, 15, 1, 15, 1];
+
+/// What a stamp field says, without a word on whether it is right.
+#[derive(Clone, Copy)]
 pub struct StampField {
     pub prefix: u64,
     pub markers: bool,
     pub value: u64,
 }
 
-pub fn stamp_field(field: u64) -> StampField {
-    let bit = |place: u32| field / 2u64.pow(place) % 2 == 1;
-    let high = field / 2u64.pow(33) % 8;
-    let middle = field / 2u64.pow(17) % 32_768;
-    let low = field / 2 % 32_768;
-    StampField {
-        prefix: field / 2u64.pow(36),
-        markers: bit(32) && bit(16) && bit(0),
-        value: (high * 32_768 + middle) * 32_768 + low,
+/// A stamp and the four bits before it, whatever they are.
+#[derive(Clone, Copy, Debug, PartialEq, Eq)]
+pub struct AnyStamp {
+    pub kind: u64,
+    pub stamp: u64,
+}
+
+impl StampField {
+    pub fn of(pieces: [u64; 7]) -> StampField {
+        let [prefix, high, first, middle, second, low, third] = pieces;
+        StampField {
+            prefix,
+            markers: [first, second, third] == [1; 3],
+            value: (high * 32_768 + middle) * 32_768 + low,
+        }
     }
+
+    /// What the field says behind any four bits, refused where a marker is 0.
+    pub fn any(self) -> Result<AnyStamp, Refusal> {
+        demand(self.markers, 36)?;
+        Ok(AnyStamp {
+            kind: self.prefix,
+            stamp: self.value,
+        })
+    }
+}
+
+fn lone_field(bytes: &[u8]) -> Result<StampField, Refusal> {
+    let pieces = Bits::of(bytes, 41).cut(STAMP_WIDTHS)?;
+    Ok(StampField::of(pieces))
 }
 
 fn stamp_prefix(prefix: u64) -> bool {
@@ -32,10 +57,13 @@ fn stamp_prefix(prefix: u64) -> bool {
 
 pub fn read_stamp(prefix: u64, bytes: &[u8]) -> Result<u64, Refusal> {
     demand(stamp_prefix(prefix), 40)?;
-    demand(bytes.len() >= STAMP_BYTES, 41)?;
-    let field = stamp_field(number_in(bytes, 0, STAMP_BYTES));
+    let field = lone_field(bytes)?;
     demand(field.prefix == prefix && field.markers, 36)?;
     Ok(field.value)
+}
+
+pub fn read_any_stamp(bytes: &[u8]) -> Result<AnyStamp, Refusal> {
+    lone_field(bytes)?.any()
 }
 
 fn write_field(bytes: &mut [u8], field: u64, size: usize) {

@@ -1,7 +1,7 @@
 -- A field made of a value holds that value, and a field with its markers or reserved bits is made again of what it holds: the bits stand side by side and none is lost.
 -- Assumes nothing.
-use mathlib.Core.Path.{_≡_, _∙_, ap}
-use mathlib.Core.Bool.{true, false, _&&_}
+use mathlib.Core.Path.{_≡_, sym, _∙_, ap}
+use mathlib.Core.Bool.{true, false, not, _&&_}
 use mathlib.Core.List.{List, [], _∷_}
 use Prim.Native.Nat.{ℕ, _/_, _%_, _^_, _≤_, _<_}
 use native.Mathlib.Nat.{mod-lt, mod-eq-of-lt, div-add-mod'}
@@ -13,15 +13,11 @@ use lib.Pow.{pow-pos}
 use borrow.Author.Tests.{eq-eqb, eqb-true, not-false}
 use Rattle.ground.specs.Number.{Field, field, pack, bits}
 use Rattle.ground.specs.Walk.{Every}
-use Rattle.ground.proofs.Test.{both-true}
-use Rattle.ground.proofs.Field.{Fitting, pack-lt, pack-unpack, unpack, unpack-pack}
+use Rattle.ground.proofs.Test.{both-true, neither}
+use Rattle.ground.proofs.Field.{Fitting, bits-lt, pack-lt, pack-unpack, unpack, unpack-pack}
 use Rattle.clock.specs.Range.{stampTurn, referenceTurn}
-use Rattle.clock.specs.Stamp.{stampOf, stampField, stampLayout, isUnmarked}
+use Rattle.clock.specs.Stamp.{stampOf, stampField, stampLayout, prefixOf, lacksMarker, isUnmarked}
 use Rattle.clock.specs.Reference.{referenceOf, referenceField, referenceLayout, clockBase, reservedOf, extensionOf}
-
--- any field of a number fits its width
-bits-lt : (n after width : ℕ) → bits n after width < 2 ^ width
-bits-lt n after width = mod-lt (n / 2 ^ after) (pow-pos width)
 
 -- the value of a field by its index
 abbrev valueAt : ℕ → List Field → ℕ
@@ -66,32 +62,40 @@ pub stamp-of-lt : (n : ℕ) → stampOf n < stampTurn
 stamp-of-lt n =
     pack-lt (field 3 (bits n 33 3) ∷ field 15 (bits n 17 15) ∷ field 15 (bits n 1 15) ∷ []) (bits-lt n 33 3, (bits-lt n 17 15, (bits-lt n 1 15, tt)))
 
--- a field whose prefix and markers are right is made again of its stamp
-pub field-of-stamp : (n prefix : ℕ) → n < 2 ^ 40 → isUnmarked n prefix ≡ false → stampField prefix (stampOf n) ≡ n
-field-of-stamp n prefix h e =
+-- a field whose markers are right is made again of its first four bits and its stamp
+pub field-of-any : (n : ℕ) → n < 2 ^ 40 → lacksMarker n ≡ false → stampField (prefixOf n) (stampOf n) ≡ n
+field-of-any n h e =
     ap pack same ∙ pack-unpack (4 ∷ 3 ∷ 1 ∷ 15 ∷ 1 ∷ 15 ∷ 1 ∷ []) n ∙ mod-eq-of-lt h
   where
-    right : (eqb (bits n 36 4) prefix && eqb (bits n 32 1) 1 && eqb (bits n 16 1) 1 && eqb (bits n 0 1) 1) ≡ true
+    right : (eqb (bits n 32 1) 1 && eqb (bits n 16 1) 1 && eqb (bits n 0 1) 1) ≡ true
     right = not-false _ e
 
-    third : (eqb (bits n 36 4) prefix && eqb (bits n 32 1) 1 && eqb (bits n 16 1) 1) ≡ true
-    third = both-true _ (eqb (bits n 0 1) 1) right .0
-
-    second : (eqb (bits n 36 4) prefix && eqb (bits n 32 1) 1) ≡ true
-    second = both-true _ (eqb (bits n 16 1) 1) third .0
+    second : (eqb (bits n 32 1) 1 && eqb (bits n 16 1) 1) ≡ true
+    second = both-true _ (eqb (bits n 0 1) 1) right .0
 
     parts : unpack (3 ∷ 15 ∷ 15 ∷ []) (stampOf n) ≡ field 3 (bits n 33 3) ∷ field 15 (bits n 17 15) ∷ field 15 (bits n 1 15) ∷ []
     parts =
         unpack-pack (field 3 (bits n 33 3) ∷ field 15 (bits n 17 15) ∷ field 15 (bits n 1 15) ∷ [])
         (bits-lt n 33 3, (bits-lt n 17 15, (bits-lt n 1 15, tt)))
 
-    same : stampLayout prefix (stampOf n) ≡ unpack (4 ∷ 3 ∷ 1 ∷ 15 ∷ 1 ∷ 15 ∷ 1 ∷ []) n
+    same : stampLayout (prefixOf n) (stampOf n) ≡ unpack (4 ∷ 3 ∷ 1 ∷ 15 ∷ 1 ∷ 15 ∷ 1 ∷ []) n
     same =
-        let named : bits n 36 4 ≡ prefix = eqb-true _ _ (both-true _ (eqb (bits n 32 1) 1) second .0) in
-        let first : bits n 32 1 ≡ 1 = eqb-true _ _ (both-true (eqb (bits n 36 4) prefix) _ second .1) in
-        let middle : bits n 16 1 ≡ 1 = eqb-true _ _ (both-true (eqb (bits n 36 4) prefix && eqb (bits n 32 1) 1) _ third .1) in
-        let last : bits n 0 1 ≡ 1 = eqb-true _ _ (both-true (eqb (bits n 36 4) prefix && eqb (bits n 32 1) 1 && eqb (bits n 16 1) 1) _ right .1) in
-        rw (named, first, middle, last, ap (valueAt 0) parts, ap (valueAt 1) parts, ap (valueAt 2) parts)
+        let first : bits n 32 1 ≡ 1 = eqb-true _ _ (both-true _ (eqb (bits n 16 1) 1) second .0) in
+        let middle : bits n 16 1 ≡ 1 = eqb-true _ _ (both-true (eqb (bits n 32 1) 1) _ second .1) in
+        let last : bits n 0 1 ≡ 1 = eqb-true _ _ (both-true (eqb (bits n 32 1) 1 && eqb (bits n 16 1) 1) _ right .1) in
+        rw (first, middle, last, ap (valueAt 0) parts, ap (valueAt 1) parts, ap (valueAt 2) parts)
+
+-- a field that is marked has the prefix, and its markers are right
+pub marked : (n prefix : ℕ) → isUnmarked n prefix ≡ false → (prefixOf n ≡ prefix) × (lacksMarker n ≡ false)
+marked n prefix e =
+    let both = neither (not (eqb (prefixOf n) prefix)) (lacksMarker n) e in
+    (eqb-true (prefixOf n) prefix (not-false _ (both .0)), both .1)
+
+-- so it is made again of the prefix and its stamp
+pub field-of-stamp : (n prefix : ℕ) → n < 2 ^ 40 → isUnmarked n prefix ≡ false → stampField prefix (stampOf n) ≡ n
+field-of-stamp n prefix h e =
+    let right = marked n prefix e in
+    ap (λ (p : ℕ). stampField p (stampOf n)) (sym (right .0)) ∙ field-of-any n h (right .1)
 
 -- ---- clock references
 module _ (v : ℕ) (h : v < referenceTurn) where

@@ -4,6 +4,7 @@ pub mod Signed
 pub mod Field
 pub mod Outcome
 pub mod Refusal
+pub mod Either
 pub mod RoundTrip
 pub mod Claims
 pub mod Stars

@@ -7,7 +7,7 @@ use lib.IntN.{ℤ}
 use Rattle.ground.specs.Answer.{Answer, refused, given}
 use Rattle.ground.proofs.Outcome.{determined-told}
 use Rattle.clock.specs.Written.{Wrote, wrote}
-use Rattle.clock.specs.Stamp.{toldStamp, readStamp, writeStamp}
+use Rattle.clock.specs.Stamp.{Prefixed, toldStamp, readStamp, toldAnyStamp, readAnyStamp, writeStamp}
 use Rattle.clock.specs.Reference.{toldReference, readReference, writeReference}
 use Rattle.clock.specs.Difference.{toldSigned, toldForward, stampDifference, referenceForward}
 use Rattle.clock.specs.Claims.Outcome.{Outcomes}
@@ -15,6 +15,8 @@ use Rattle.clock.specs.declared.Written.{Written}
 use Rattle.clock.specs.declared.Written.the-variants as written
 use Rattle.clock.specs.declared.stamp.Reading as stamps
 use Rattle.clock.specs.declared.stamp.Reading.the-variants as stamp
+use Rattle.clock.specs.declared.stamp.AnyReading.{AnyReading}
+use Rattle.clock.specs.declared.stamp.AnyReading.the-variants as anyReading
 use Rattle.clock.specs.declared.stamp.Apart.{Apart}
 use Rattle.clock.specs.declared.stamp.Apart.the-variants as apart
 use Rattle.clock.specs.declared.reference.Reading as references
@@ -29,6 +31,14 @@ madeStamp (given v) = stamp.Value (record { 0 = v })
 back-stamp : (r : stamps.Reading) → madeStamp (toldStamp r) ≡ r
 back-stamp (stamp.Value v) = refl
 back-stamp (stamp.Refused n) = refl
+
+abbrev madeAnyStamp : Answer Prefixed → AnyReading
+madeAnyStamp (refused n) = anyReading.Refused n
+madeAnyStamp (given p) = anyReading.Value (p .prefix) (record { 0 = p .stamp })
+
+back-any-stamp : (r : AnyReading) → madeAnyStamp (toldAnyStamp r) ≡ r
+back-any-stamp (anyReading.Value prefix v) = refl
+back-any-stamp (anyReading.Refused n) = refl
 
 abbrev madeReference : Answer ℕ → references.Reading
 madeReference (refused n) = reference.Refused n
@@ -76,6 +86,7 @@ pub outcomes : Outcomes
 outcomes =
     record {
       readsStamp = λ s prefix. determined-told toldStamp madeStamp back-stamp (readStamp s prefix);
+      readsAnyStamp = λ s. determined-told toldAnyStamp madeAnyStamp back-any-stamp (readAnyStamp s);
       writesStamp = λ s prefix v. determined-told toldWrote madeWrote back-wrote (writeStamp s prefix v);
       tellsApart = λ a b. determined-told toldSigned madeSigned back-signed (stampDifference a b);
       readsReference = λ s. determined-told toldReference madeReference back-reference (readReference s);

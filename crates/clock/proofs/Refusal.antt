@@ -12,7 +12,7 @@ use Rattle.ground.proofs.Judged.{exact, exact-call}
 use Rattle.clock.specs.Modulus.{minusMod}
 use Rattle.clock.specs.Range.{stampTurn, referenceTurn}
 use Rattle.clock.specs.Written.{Wrote, unwritten}
-use Rattle.clock.specs.Stamp.{stampReadRefusals, stampWriteRefusals, stampOf, stampField}
+use Rattle.clock.specs.Stamp.{stampReadRefusals, anyStampRefusals, stampWriteRefusals, prefixedOf, stampOf, stampField}
 use Rattle.clock.specs.Reference.{referenceReadRefusals, referenceWriteRefusals, referenceOf, referenceField}
 use Rattle.clock.specs.Difference.{stampDifferenceRefusals, referenceForwardRefusals}
 use Rattle.clock.specs.Claims.Refusal.{ExactWrite, Refusals}
@@ -25,6 +25,7 @@ pub refusals : Refusals
 refusals =
     record {
       stampRead = λ s prefix. exact (stampReadRefusals s prefix) (stampOf (numberAt s 0 5));
+      anyStampRead = λ s. exact (anyStampRefusals s) (prefixedOf (numberAt s 0 5));
       referenceRead = λ s. exact (referenceReadRefusals s) (referenceOf (numberAt s 0 6));
       stampWritten = λ s prefix v. exact-write s (stampWriteRefusals s prefix v) (put s 0 (bytesOf 5 (stampField prefix v)));
       referenceWritten = λ s v. exact-write s (referenceWriteRefusals s v) (put s 0 (bytesOf 6 (referenceField v)));

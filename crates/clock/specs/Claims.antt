@@ -5,11 +5,13 @@ pub mod RoundTrip
 pub mod Modulus
 pub mod Turn
 use mathlib.Core.Path.{_≡_}
+use mathlib.Core.Bool.{false}
 use mathlib.Core.List.{List}
-use Prim.Native.Nat.{ℕ, _<_}
+use mathlib.Core.Logic.{_↔_}
+use Prim.Native.Nat.{ℕ, _^_, _<_}
 use Rattle.ground.specs.Answer.{given}
 use Rattle.clock.specs.Range.{stampTurn, referenceTurn}
-use Rattle.clock.specs.Stamp.{readStamp}
+use Rattle.clock.specs.Stamp.{Prefixed, isNoPrefix, readStamp, readAnyStamp}
 use Rattle.clock.specs.Reference.{readReference}
 use Rattle.clock.specs.Claims.Outcome.{Outcomes}
 use Rattle.clock.specs.Claims.Refusal.{Refusals}
@@ -24,6 +26,11 @@ pub record Claims : Type 0 where
   pub refusals : Refusals
   -- "Stamp: 0 to 2^33 − 1": what is read is in range
   pub stampInRange : (s : List ℕ) (prefix v : ℕ) → readStamp s prefix ≡ given v → v < stampTurn
+  -- the same behind any four bits
+  pub anyStampInRange : (s : List ℕ) (p : Prefixed) → readAnyStamp s ≡ given p → (p .prefix < 2 ^ 4) × (p .stamp < stampTurn)
+  -- behind a prefix that a stamp has, both readings give a stamp for the same bytes, and the same one
+  pub eitherReading : (s : List ℕ) (prefix v : ℕ) → isNoPrefix prefix ≡ false
+      → (readStamp s prefix ≡ given v) ↔ (readAnyStamp s ≡ given (record { prefix = prefix; stamp = v }))
   -- "Clock reference: 0 to 2,576,980,377,599 (below 300·2^33)": what is read is in range
   pub referenceInRange : (s : List ℕ) (v : ℕ) → readReference s ≡ given v → v < referenceTurn
   -- what was written is read back, and what was read is written again

@@ -2,12 +2,13 @@
 use mathlib.Core.Path.{_≡_}
 use mathlib.Core.List.{List}
 use Prim.Native.Nat.{ℕ}
-use Rattle.clock.specs.Stamp.{toldStamp, readStamp, writeStamp}
+use Rattle.clock.specs.Stamp.{toldStamp, readStamp, toldAnyStamp, readAnyStamp, writeStamp}
 use Rattle.clock.specs.Reference.{toldReference, readReference, writeReference}
 use Rattle.clock.specs.Difference.{toldSigned, toldForward, stampDifference, referenceForward}
 use Rattle.clock.specs.Written.{wrote}
 use Rattle.clock.specs.declared.Written.{Written}
 use Rattle.clock.specs.declared.stamp.Reading as stamps
+use Rattle.clock.specs.declared.stamp.AnyReading.{AnyReading}
 use Rattle.clock.specs.declared.stamp.Apart.{Apart}
 use Rattle.clock.specs.declared.reference.Reading as references
 use Rattle.clock.specs.declared.reference.Ahead.{Ahead}
@@ -15,6 +16,10 @@ use Rattle.clock.specs.declared.reference.Ahead.{Ahead}
 -- `stamp::read` of lent bytes, behind a prefix
 abbrev pub ReadsStamp : List ℕ → ℕ → stamps.Reading → Type 0
 ReadsStamp s prefix r = toldStamp r ≡ readStamp s prefix
+
+-- `stamp::read_any` of lent bytes
+abbrev pub ReadsAnyStamp : List ℕ → AnyReading → Type 0
+ReadsAnyStamp s r = toldAnyStamp r ≡ readAnyStamp s
 
 -- `stamp::write`: its outcome is the answer, with all lent bytes after it
 abbrev pub WritesStamp : List ℕ → ℕ → ℕ → Written × List ℕ → Type 0

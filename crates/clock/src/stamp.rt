@@ -1,7 +1,10 @@
 // Stamps (PTS, DTS): 33 bits in five bytes, behind a four-bit prefix and with three marker bits.
 ghost use mathlib.Core.Path.{_≡_};
-ghost use Rattle.clock.specs.Stamp.{isNoPrefix, isUnmarked, stampOf, stampField};
-ghost use Rattle.clock.specs.Promises.{ReadsStamp, WritesStamp, TellsApart};
+ghost use Prim.Native.Nat.{_≤_};
+ghost use lib.ListN.{length};
+ghost use Rattle.ground.specs.Number.{numberAt};
+ghost use Rattle.clock.specs.Stamp.{isNoPrefix, prefixOf, lacksMarker, isUnmarked, stampOf, stampField};
+ghost use Rattle.clock.specs.Promises.{ReadsStamp, ReadsAnyStamp, WritesStamp, TellsApart};
 use crate::Written;
 use octets::number_of_five;
 
@@ -10,6 +13,12 @@ pub struct Stamp(pub u64);
 
 pub enum Reading {
     Value(Stamp),
+    Refused(u8),
+}
+
+// A stamp and the four bits before it.
+pub enum AnyReading {
+    Value { prefix: u8, stamp: Stamp },
     Refused(u8),
 }
 
@@ -30,14 +39,25 @@ fn is_no_prefix(prefix: u8) -> bool
     !((1 <= prefix) & (prefix <= 3))
 }
 
+// The four bits before the stamp in a field.
+fn prefix_of(n: u64) -> u8
+    ensures { λ r. ⌜ r ≡ prefixOf n ⌝ }
+{
+    (n / 0x10_0000_0000 % 16) as u8
+}
+
+// Whether a field lacks one of its three markers.
+fn lacks_marker(n: u64) -> bool
+    ensures { λ r. ⌜ r ≡ lacksMarker n ⌝ }
+{
+    !((n / 0x1_0000_0000 % 2 == 1) & (n / 0x1_0000 % 2 == 1) & (n % 2 == 1))
+}
+
 // Whether a field lacks this prefix or one of its three markers.
 fn is_unmarked(n: u64, prefix: u8) -> bool
     ensures { λ r. ⌜ r ≡ isUnmarked n prefix ⌝ }
 {
-    !((n / 0x10_0000_0000 % 16 == (prefix as u64))
-        & (n / 0x1_0000_0000 % 2 == 1)
-        & (n / 0x1_0000 % 2 == 1)
-        & (n % 2 == 1))
+    (prefix_of(n) != prefix) | lacks_marker(n)
 }
 
 // The stamp in a field.
@@ -45,6 +65,14 @@ fn value_of(n: u64) -> u64
     ensures { λ r. ⌜ r ≡ stampOf n ⌝ }
 {
     n / 0x2_0000_0000 % 8 * 0x4000_0000 + n / 0x2_0000 % 0x8000 * 0x8000 + n / 2 % 0x8000
+}
+
+// The field that begins the bytes.
+fn field_in(bytes: &[u8]) -> u64
+    requires { ⌜ 5 ≤ length (now bytes) ⌝ }
+    ensures { λ r. ⌜ r ≡ numberAt (now (bytes .entry)) 0 5 ⌝ }
+{
+    number_of_five(bytes[0], bytes[1], bytes[2], bytes[3], bytes[4])
 }
 
 // The stamp whose field begins the bytes, behind the prefix that the caller names.
@@ -57,11 +85,28 @@ pub fn read(bytes: &[u8], prefix: u8) -> Reading
     if bytes.len() < 5 {
         return Reading::Refused(41);
     }
-    let n = number_of_five(bytes[0], bytes[1], bytes[2], bytes[3], bytes[4]);
+    let n = field_in(bytes);
     if is_unmarked(n, prefix) {
         return Reading::Refused(36);
     }
     Reading::Value(Stamp(value_of(n)))
+}
+
+// The stamp whose field begins the bytes, behind any four bits, and these bits.
+pub fn read_any(bytes: &[u8]) -> AnyReading
+    ensures { λ r. ⌜ ReadsAnyStamp (now (bytes .entry)) r ⌝ }
+{
+    if bytes.len() < 5 {
+        return AnyReading::Refused(41);
+    }
+    let n = field_in(bytes);
+    if lacks_marker(n) {
+        return AnyReading::Refused(36);
+    }
+    AnyReading::Value {
+        prefix: prefix_of(n),
+        stamp: Stamp(value_of(n)),
+    }
 }
 
 // The field of a stamp behind a prefix.

@@ -1,14 +1,29 @@
 -- Fields side by side: each is read back where it stands, whatever stands beside it, and a number is made again of all its fields.
 -- Assumes nothing.
 use mathlib.Core.Path.{_≡_, refl, sym, _∙_, ap, ap₂}
+use mathlib.Core.Bool.{cond}
 use mathlib.Core.List.{List, [], _∷_, map}
-use Prim.Native.Nat.{ℕ, _+_, _*_, _/_, _%_, _^_, _<_}
-use native.Mathlib.Nat.{mul-assoc, mod-one, mod-eq-of-lt, mul-add-div-right, mul-add-mod-self-right}
+use Prim.Native.Nat.{ℕ, zero, suc, _+_, _*_, _/_, _%_, _^_, _<_}
+use native.Mathlib.Nat.{mul-assoc, mod-one, mod-lt, mod-eq-of-lt, mul-add-div-right, mul-add-mod-self-right}
+use native.Mathlib.Omega.{arith}
 use lib.Arith.{digits-div, digits-lt}
-use lib.Dec.{lit<}
+use lib.Dec.{eqb, lit<}
 use lib.Pow.{pow-pos, pow-add, mod-pow-add}
 use Rattle.ground.specs.Walk.{Every, total}
-use Rattle.ground.specs.Number.{Field, field, widths, pack, bits}
+use Rattle.ground.specs.Number.{Field, field, widths, pack, bits, isFlagged}
+
+-- any field of a number fits its width
+pub bits-lt : (n after width : ℕ) → bits n after width < 2 ^ width
+bits-lt n after width = mod-lt (n / 2 ^ after) (pow-pos width)
+
+-- a flag as a number is its bit
+pub flag-bit : (n after : ℕ) → cond (isFlagged n after) 1 0 ≡ bits n after 1
+flag-bit n after = go (bits n after 1) (bits-lt n after 1)
+  where
+    go : (b : ℕ) → b < 2 → cond (eqb b 1) 1 0 ≡ b
+    go zero h = refl
+    go (suc zero) h = refl
+    go (suc (suc b)) h = absurd (omega arith)
 
 -- the value has no more bits than the field
 abbrev pub Fitting : Field → Type 0

@@ -1,4 +1,5 @@
 pub mod Answer
+pub mod Perhaps
 pub mod Test
 pub mod Refusal
 pub mod Judged

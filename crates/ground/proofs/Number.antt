@@ -90,7 +90,7 @@ bytesAt-bytes s i k h b = rw (bytesAt-part s i k h) (every-take (λ (x : ℕ). x
 pub bytesAt-put : (d : List ℕ) (i : ℕ) (s : List ℕ) → i + length s ≤ length d → bytesAt (put d i s) i (length s) ≡ s
 bytesAt-put d i s h = bytesAt-part (put d i s) i (length s) (rw (length-put d i s h) h) ∙ written d i s h
 
--- a number that was written is read there, and a number that was read is written back
+-- a number that was written is read there; a number that was read is made of the bytes there, and is written back
 module _ (s : List ℕ) (i k : ℕ) (fits : i + k ≤ length s) where
   pub numberAt-put : (n : ℕ) → n < 256 ^ k → numberAt (put s i (bytesOf k n)) i k ≡ n
   numberAt-put n h =
@@ -103,10 +103,11 @@ module _ (s : List ℕ) (i k : ℕ) (fits : i + k ≤ length s) where
   numberAt-lt b =
       rw (length-bytesAt s i k) at (number-split (bytesAt s i k) 0 (bytesAt-bytes s i k fits b) .1)
 
-  pub put-numberAt : Bytes s → put s i (bytesOf k (numberAt s i k)) ≡ s
-  put-numberAt b =
-      ap (λ (bs : List ℕ). put s i bs)
-      (ap (λ (m : ℕ). bytesOf m (numberAt s i k)) (sym (length-bytesAt s i k))
+  pub bytes-numberAt : Bytes s → bytesOf k (numberAt s i k) ≡ take k (drop i s)
+  bytes-numberAt b =
+      ap (λ (m : ℕ). bytesOf m (numberAt s i k)) (sym (length-bytesAt s i k))
       ∙ bytes-number (bytesAt s i k) (bytesAt-bytes s i k fits b)
-      ∙ bytesAt-part s i k fits)
-      ∙ put-same s i k fits
+      ∙ bytesAt-part s i k fits
+
+  pub put-numberAt : Bytes s → put s i (bytesOf k (numberAt s i k)) ≡ s
+  put-numberAt b = ap (λ (bs : List ℕ). put s i bs) (bytes-numberAt b) ∙ put-same s i k fits

@@ -4,14 +4,14 @@ use mathlib.Core.Path.{_≡_, refl, sym, _∙_, ap, ap₂}
 use mathlib.Core.Bool.{Bool, true, false}
 use mathlib.Core.List.{List, [], _∷_, _++_}
 use Prim.Native.Nat.{ℕ, zero, suc, _+_, _-_, _≤_, _<_, min}
-use native.Mathlib.Nat.{zero-add, add-suc, suc-add, le-refl}
+use native.Mathlib.Nat.{zero-add, add-zero, add-suc, suc-add, le-refl}
 use native.Mathlib.Numerals.{add-one, add-two}
 use native.Mathlib.Omega.{arith}
-use borrow.Author.Tests.{ltb-true, ltb-false}
+use borrow.Author.Tests.{ltb-true, ltb-false, le-ltb}
 use lib.Dec.{ltb}
 use lib.ListN.{length, getD, take, drop, length-append, length-drop, drop-of-length-le, List·getD-append, List·getD-eq-default}
-use lib.Seq.{slice, slice-cons, slice-empty, drop-drop, getD-append-add, getD-drop, getD-take, length-take-le, take-all, take-append-add, take-append-le, take-length, take-nil, take-take}
-use Rattle.ground.specs.Number.{bytesAt}
+use lib.Seq.{slice, slice-cons, slice-empty, drop-drop, getD-append-add, getD-drop, getD-take, length-take-le, take-add, take-all, take-append-add, take-append-le, take-length, take-nil, take-take}
+use Rattle.ground.specs.Number.{numberOf, bytesAt, numberAt}
 use Rattle.ground.specs.Write.{put}
 use Rattle.ground.proofs.Write.{put-put, put-nil, put-same}
 
@@ -118,6 +118,17 @@ module _ {ℓ} {A : Type ℓ} where
           ∙ ap (λ (l : List A). a ++ l) (take-take (n - length a) m b (omega arith))
           ∙ sym (take-append-add a b (n - length a)))
 
+  -- ---- elements that stand in a list from a place on
+  abbrev pub Standing : List A → ℕ → List A → Type ℓ
+  Standing s i t = take (length t) (drop i s) ≡ t
+
+  -- and after them others
+  pub standing-both : (s : List A) (i : ℕ) (t u : List A) → Standing s i t → Standing s (i + length t) u → Standing s i (t ++ u)
+  standing-both s i t u h g =
+      ap (λ (n : ℕ). take n (drop i s)) (length-append t u)
+      ∙ take-add (length t) (length u) (drop i s)
+      ∙ ap₂ (λ (a b : List A). a ++ b) h (ap (λ (l : List A). take (length u) l) (drop-drop (length t) i s) ∙ g)
+
   -- ---- a write after a part that stands where it is written
   pub put-after : (d : List A) (at n : ℕ) (t : List A) → at + n + length t ≤ length d → put d at (take n (drop at d) ++ t) ≡ put d (at + n) t
   put-after d at n t h =
@@ -153,3 +164,15 @@ bytesAt-drop s i j zero = refl
 bytesAt-drop s i j (suc k) =
     ap₂ (λ (x : ℕ) (xs : List ℕ). x ∷ xs) (getD-drop i s j 0)
     (bytesAt-drop s i (suc j) k ∙ ap (λ (n : ℕ). bytesAt s n k) (add-suc i j))
+
+-- ---- a field of k bytes with which the part from place i on begins
+-- its number is the whole's at that place
+pub numberAt-part : (s : List ℕ) (i k : ℕ) → numberAt (take (length s - i) (drop i s)) 0 k ≡ numberAt s i k
+numberAt-part s i k =
+    ap (λ (t : List ℕ). numberAt t 0 k) (part-drop s i)
+    ∙ ap numberOf (bytesAt-drop s i 0 k)
+    ∙ ap (λ (n : ℕ). numberAt s n k) (add-zero i)
+
+-- and where the whole has it, the part is not too short for it
+pub part-holds : (s : List ℕ) (i k : ℕ) → i + k ≤ length s → ltb (length (take (length s - i) (drop i s))) k ≡ false
+part-holds s i k h = le-ltb (length (take (length s - i) (drop i s))) k (rw (part-drop s i, length-drop i s) (omega arith))

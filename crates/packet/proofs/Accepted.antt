@@ -17,10 +17,15 @@ use Rattle.clock.proofs.Field.{reference-of-lt}
 use Rattle.clock.specs.Range.{referenceTurn}
 use Rattle.clock.specs.Reference.{extensionOf, referenceOf}
 use Rattle.ground.specs.Perhaps.{Perhaps, there, absent, perhaps}
-use Rattle.packet.specs.Adaptation.{Span, hasField, hasFlags, flagsOf, lengthOf, isWrongLength, isWrongClock, isOver, clockAt, partAt, partSize, privatePlace, extensionPlace, fieldsEnd}
+use Rattle.packet.specs.Part.{Span, partAt, partSize}
+use Rattle.packet.specs.Extension.{isCramped}
+use Rattle.packet.specs.Adaptation.{extensionPart, valueRefusals, hasField, hasFlags, flagsOf, lengthOf, isWrongLength, isWrongClock, isOver, clockAt, privatePlace, extensionPlace, fieldsEnd}
 use Rattle.packet.specs.Packet.{Contents, headerOf, controlOf, contents, packetRefusals}
 use Rattle.packet.specs.Payload.{startAfter, startOf, payloadStart}
 use Rattle.packet.specs.Claims.Accepted.{Accepted, EveryAccepted, InRange}
+use Rattle.packet.specs.Claims.Extension.{Spelt, extendedOf, NothingLost}
+use Rattle.packet.proofs.Field.{Shape, sizeBy, shape}
+use Rattle.packet.proofs.Extended.{there-exactly, told-inside, ranges, extended-again}
 
 -- ---- clock references
 clock-small : (s : List ℕ) (i : ℕ) (flagged : Bool) → isWrongClock s i flagged ≡ false → InRange (clockAt s i flagged)
@@ -59,28 +64,6 @@ module _ (s : List ℕ) where
       (refl, omega arith)
   extension-inside false e span h = let z : _≡_ {A = ℕ} 0 1 = cc in absurd (omega arith)
 
--- ---- control and length
-abbrev sizeBy : ℕ → ℕ → Perhaps ℕ
-sizeBy control n = perhaps (hasField control) n
-
-abbrev Shape : ℕ → ℕ → Type 0
-Shape control n =
-    (startAfter (sizeBy control n) ≤ 188)
-    × (control ≡ 1 → (sizeBy control n ≡ absent) × (188 - startAfter (sizeBy control n) ≡ 184))
-    × (control ≡ 2 → (sizeBy control n ≡ there 183) × (188 - startAfter (sizeBy control n) ≡ 0))
-    × (control ≡ 3 → (m : ℕ) × ((sizeBy control n ≡ there m) × (m ≤ 182) × (188 - startAfter (sizeBy control n) ≡ 183 - m)))
-
-shape : (control n : ℕ) → control < 4 → isWrongLength control n ≡ false → Shape control n
-shape zero n l e = (lit≤ tt, λ h. absurd (omega arith), λ h. absurd (omega arith), λ h. absurd (omega arith))
-shape (suc zero) n l e = (lit≤ tt, λ h. (refl, refl), λ h. absurd (omega arith), λ h. absurd (omega arith))
-shape (suc (suc zero)) n l e =
-    let full = eqb-true n 183 (not-false (eqb n 183) (neither (not (eqb n 183)) false e .0)) in
-    (omega arith, λ h. absurd (omega arith), λ h. (ap there full, omega arith), λ h. absurd (omega arith))
-shape (suc (suc (suc zero))) n l e =
-    let low = ltb-false 182 n e in
-    (omega arith, λ h. absurd (omega arith), λ h. absurd (omega arith), λ h. (n, (refl, low, omega arith)))
-shape (suc (suc (suc (suc k)))) n l e = absurd (omega arith)
-
 -- ---- the theorem
 pub accepted : EveryAccepted
 accepted s p e =
@@ -96,10 +79,17 @@ accepted s p e =
       whole = λ h. (form .1 h .0, size ∙ form .1 h .1);
       none = λ h. (form .2 h .0, size ∙ form .2 h .1);
       rest = λ h. let r = form .3 h in (r .0, (r .1 .0, r .1 .1, size ∙ r .1 .2));
-      pcr = clock-small s 6 (isFlagged flags 4) (rows .1 .1 .1 .1 .1 .1 .0);
-      opcr = clock-small s _ (isFlagged flags 3) (rows .1 .1 .1 .1 .1 .1 .1 .0);
+      pcr = clock-small s 6 (isFlagged flags 4) (values .0);
+      opcr = clock-small s _ (isFlagged flags 3) (values .1 .0);
       privateData = λ span h. before span (own-inside s (hasFlags control s) over span h);
       extension = λ span h. before span (extension-inside s (hasFlags control s) over span h);
+      windowThere = there-exactly s (extensionPart s flags) .0;
+      rateThere = there-exactly s (extensionPart s flags) .1;
+      spliceThere = there-exactly s (extensionPart s flags) .2;
+      parts = told-inside s (extensionPart s flags) cramped;
+      window = ranges s (extensionPart s flags) .0;
+      rate = ranges s (extensionPart s flags) .1;
+      splice = ranges s (extensionPart s flags) .2;
     })
   where
     control : ℕ
@@ -129,5 +119,25 @@ accepted s p e =
     over : (hasFlags (controlOf (headerOf s)) s && isOver s (flagsOf (controlOf (headerOf s)) s)) ≡ false
     over = rows .1 .1 .1 .1 .1 .0
 
+    cramped : isCramped s (extensionPart s (flagsOf (controlOf (headerOf s)) s)) ≡ false
+    cramped = rows .1 .1 .1 .1 .1 .1 .0
+
+    values : Silent (valueRefusals s (flagsOf (controlOf (headerOf s)) s))
+    values = rows .1 .1 .1 .1 .1 .1 .1
+
     before : (span : Span) → (hasFlags (controlOf (headerOf s)) s ≡ true) × (span .start + span .size ≤ 5 + lengthOf s) → span .start + span .size ≤ payloadStart s
     before span h = rw (start, both-true (hasField (controlOf (headerOf s))) (not (eqb (lengthOf s) 0)) (h .0) .0) (h .1)
+
+pub nothing-lost : NothingLost
+nothing-lost s p b e span h =
+    subst (λ (q : Contents). q .field .extension ≡ there span → Spelt s (span .start) (extendedOf (q .field))) (sym (passed .1))
+    (λ there. extended-again s b (extensionPart s (flagsOf (controlOf (headerOf s)) s)) (rows .1 .1 .1 .1 .1 .1 .0) (rows .1 .1 .1 .1 .1 .1 .1 .1 .1 .0) span there ends) h
+  where
+    passed : Silent (packetRefusals s) × (p ≡ contents s)
+    passed = given-by (packetRefusals s) (contents s) p e
+
+    rows : Silent (packetRefusals s)
+    rows = passed .0
+
+    ends : span .start + span .size ≤ length s
+    ends = let whole = accepted s p e in omega (arith, whole .extension span h, whole .inside)

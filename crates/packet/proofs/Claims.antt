@@ -5,7 +5,7 @@ use Rattle.ground.proofs.Outcome.{determined, determined-told}
 use Rattle.packet.specs.Packet.{toldPacket, toldReading, packetRefusals, contents, readPacket}
 use Rattle.packet.specs.Payload.{startAfter, payloadPart}
 use Rattle.packet.specs.Claims.{Claims}
-use Rattle.packet.proofs.Accepted.{accepted}
+use Rattle.packet.proofs.Accepted.{accepted, nothing-lost}
 use Rattle.packet.proofs.Told.{madeReading, back-reading}
 
 pub claims : Claims
@@ -16,4 +16,5 @@ claims =
       givesPayload = λ l. determined (payloadPart l);
       exact = λ s. exact (packetRefusals s) (contents s);
       accepted = accepted;
+      nothingLost = nothing-lost;
     }

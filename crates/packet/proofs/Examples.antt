@@ -1,4 +1,4 @@
--- Three whole packets, by computation.
+-- Five whole packets, by computation.
 -- Assumes nothing.
 use mathlib.Core.Path.{_≡_, refl}
 use mathlib.Core.Bool.{true, false}
@@ -43,6 +43,9 @@ pub clock-read : readPacket clock ≡ given (record {
     countdown = absent;
     privateData = absent;
     extension = absent;
+    window = absent;
+    rate = absent;
+    splice = absent;
   };
 })
 clock-read = refl
@@ -50,7 +53,7 @@ clock-read = refl
 pub clock-payload : payloadStart clock ≡ 188
 clock-payload = refl
 
--- every field: the largest PCR, an OPCR of 0, a countdown of −1, two bytes of private data, an extension of one
+-- every field: the largest PCR, an OPCR of 0, a countdown of −1, two bytes of private data, an extension of one byte that flags no part
 abbrev pub full : List ℕ
 full =
     0x47 ∷ 0x3F ∷ 0xFF ∷ 0xF1 ∷ 20 ∷ 0xFF
@@ -79,9 +82,85 @@ pub full-read : readPacket full ≡ given (record {
     countdown = there (negsuc 0);
     privateData = there (record { start = 20; size = 2 });
     extension = there (record { start = 23; size = 1 });
+    window = absent;
+    rate = absent;
+    splice = absent;
   };
 })
 full-read = refl
 
 pub full-payload : payloadStart full ≡ 25
 full-payload = refl
+
+-- an extension with all three parts, reserved bits set: a valid window, a rate, a splice of type 5 at 90,000
+abbrev pub extended : List ℕ
+extended =
+    0x47 ∷ 0x01 ∷ 0x00 ∷ 0x30 ∷ 13 ∷ 0x01
+    ∷ 11 ∷ 0xFF
+    ∷ 0x92 ∷ 0x34
+    ∷ 0xEA ∷ 0xBC ∷ 0xDE
+    ∷ 0x51 ∷ 0x00 ∷ 0x05 ∷ 0xBF ∷ 0x21
+    ∷ replicate 170 0xFF
+
+pub extended-read : readPacket extended ≡ given (record {
+  unitStart = false;
+  priority = false;
+  pid = 256;
+  scrambling = 0;
+  control = 3;
+  counter = 0;
+  field = record {
+    size = there 13;
+    discontinuity = false;
+    randomAccess = false;
+    streamPriority = false;
+    pcr = absent;
+    opcr = absent;
+    countdown = absent;
+    privateData = absent;
+    extension = there (record { start = 7; size = 11 });
+    window = there (record { valid = true; offset = 4660 });
+    rate = there 2800862;
+    splice = there (record { spliceType = 5; stamp = 90000 });
+  };
+})
+extended-read = refl
+
+pub extended-payload : payloadStart extended ≡ 18
+extended-payload = refl
+
+-- an extension with a splice alone, of type 0 at the last stamp, and two reserved bytes behind it
+abbrev pub spliced : List ℕ
+spliced =
+    0x47 ∷ 0x01 ∷ 0x00 ∷ 0x30 ∷ 10 ∷ 0x01
+    ∷ 8 ∷ 0x20
+    ∷ 0x0F ∷ 0xFF ∷ 0xFF ∷ 0xFF ∷ 0xFF
+    ∷ 0x00 ∷ 0x00
+    ∷ replicate 173 0xFF
+
+pub spliced-read : readPacket spliced ≡ given (record {
+  unitStart = false;
+  priority = false;
+  pid = 256;
+  scrambling = 0;
+  control = 3;
+  counter = 0;
+  field = record {
+    size = there 10;
+    discontinuity = false;
+    randomAccess = false;
+    streamPriority = false;
+    pcr = absent;
+    opcr = absent;
+    countdown = absent;
+    privateData = absent;
+    extension = there (record { start = 7; size = 8 });
+    window = absent;
+    rate = absent;
+    splice = there (record { spliceType = 0; stamp = 8589934591 });
+  };
+})
+spliced-read = refl
+
+pub spliced-payload : payloadStart spliced ≡ 15
+spliced-payload = refl

@@ -1,8 +1,10 @@
 pub mod Clock
+pub mod Splice
 pub mod Signed
 pub mod Flagged
 pub mod Field
 pub mod Header
+pub mod Extended
 pub mod Accepted
 pub mod PayloadSize
 pub mod Stars

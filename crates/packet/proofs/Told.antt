@@ -5,7 +5,9 @@ use Prim.Native.Nat.{ℕ}
 use lib.IntN.{ℤ}
 use Rattle.ground.specs.Answer.{Answer, refused, given}
 use Rattle.ground.specs.Perhaps.{Perhaps, there, absent}
-use Rattle.packet.specs.Adaptation.{Span, AdaptationField, toldLength, toldClock, toldCountdown, toldPart, toldField}
+use Rattle.packet.specs.Part.{Span, toldPart}
+use Rattle.packet.specs.Extension.{LegalWindow, SeamlessSplice, toldWindow, toldRate, toldSplice}
+use Rattle.packet.specs.Adaptation.{AdaptationField, toldLength, toldClock, toldCountdown, toldField}
 use Rattle.packet.specs.Packet.{Contents, toldReading}
 use Rattle.packet.specs.declared.adaptation.Length.{Length}
 use Rattle.packet.specs.declared.adaptation.Length.the-variants as lengths
@@ -16,6 +18,12 @@ use Rattle.packet.specs.declared.adaptation.Countdown.the-variants as co
 use Rattle.packet.specs.declared.adaptation.Part.{Part}
 use Rattle.packet.specs.declared.adaptation.Part.the-variants as part
 use Rattle.packet.specs.declared.adaptation.Adaptation.{Adaptation}
+use Rattle.packet.specs.declared.extension.Window.{Window}
+use Rattle.packet.specs.declared.extension.Window.the-variants as window
+use Rattle.packet.specs.declared.extension.Rate.{Rate}
+use Rattle.packet.specs.declared.extension.Rate.the-variants as rate
+use Rattle.packet.specs.declared.extension.Splice.{Splice}
+use Rattle.packet.specs.declared.extension.Splice.the-variants as splice
 use Rattle.packet.specs.declared.Packet.{Packet}
 use Rattle.packet.specs.declared.Reading.{Reading}
 use Rattle.packet.specs.declared.Reading.the-variants as reading
@@ -52,6 +60,30 @@ back-part : (x : Part) → madePart (toldPart x) ≡ x
 back-part (part.There start size) = refl
 back-part part.Absent = refl
 
+abbrev madeWindow : Perhaps LegalWindow → Window
+madeWindow (there w) = window.There (w .valid) (w .offset)
+madeWindow absent = window.Absent
+
+back-window : (x : Window) → madeWindow (toldWindow x) ≡ x
+back-window (window.There valid offset) = refl
+back-window window.Absent = refl
+
+abbrev madeRate : Perhaps ℕ → Rate
+madeRate (there n) = rate.There n
+madeRate absent = rate.Absent
+
+back-rate : (x : Rate) → madeRate (toldRate x) ≡ x
+back-rate (rate.There n) = refl
+back-rate rate.Absent = refl
+
+abbrev madeSplice : Perhaps SeamlessSplice → Splice
+madeSplice (there x) = splice.There (x .spliceType) (record { 0 = x .stamp })
+madeSplice absent = splice.Absent
+
+back-splice : (x : Splice) → madeSplice (toldSplice x) ≡ x
+back-splice (splice.There spliceType v) = refl
+back-splice splice.Absent = refl
+
 abbrev madeField : AdaptationField → Adaptation
 madeField f =
     record {
@@ -64,11 +96,24 @@ madeField f =
       countdown = madeCountdown (f .countdown);
       «private_data» = madePart (f .privateData);
       extension = madePart (f .extension);
+      window = madeWindow (f .window);
+      rate = madeRate (f .rate);
+      splice = madeSplice (f .splice);
     }
 
 back-field : (a : Adaptation) → madeField (toldField a) ≡ a
 back-field a =
-    rw (back-length (a .length), back-clock (a .pcr), back-clock (a .opcr), back-countdown (a .countdown), back-part (a .«private_data»), back-part (a .extension))
+    rw (
+      back-length (a .length),
+      back-clock (a .pcr),
+      back-clock (a .opcr),
+      back-countdown (a .countdown),
+      back-part (a .«private_data»),
+      back-part (a .extension),
+      back-window (a .window),
+      back-rate (a .rate),
+      back-splice (a .splice),
+    )
 
 abbrev madePacket : Contents → Packet
 madePacket p =

@@ -9,20 +9,15 @@ use Rattle.ground.specs.Number.{bits, isFlagged, numberAt}
 use Rattle.ground.specs.Refusal.{Row, _when_}
 use Rattle.clock.specs.Reference.{extensionOf, referenceOf}
 use Rattle.ground.specs.Perhaps.{Perhaps, there, absent, perhaps}
+use Rattle.packet.specs.Part.{Span, toldPart, partAt, partSize}
+use Rattle.packet.specs.Extension.{LegalWindow, SeamlessSplice, toldWindow, toldRate, toldSplice, extendedIn, isCramped, isUnmarked}
 use Rattle.packet.specs.declared.adaptation.Length.{Length}
 use Rattle.packet.specs.declared.adaptation.Length.the-variants as lengths
 use Rattle.packet.specs.declared.adaptation.Clock.{Clock}
 use Rattle.packet.specs.declared.adaptation.Clock.the-variants as clock
 use Rattle.packet.specs.declared.adaptation.Countdown.{Countdown}
 use Rattle.packet.specs.declared.adaptation.Countdown.the-variants as countdown
-use Rattle.packet.specs.declared.adaptation.Part.{Part}
-use Rattle.packet.specs.declared.adaptation.Part.the-variants as part
 use Rattle.packet.specs.declared.adaptation.Adaptation.{Adaptation}
-
--- bytes of the packet: where they begin and how many they are
-pub record Span : Type 0 where
-  pub start : ℕ
-  pub size : ℕ
 
 -- "The reading says which fields are there"
 pub record AdaptationField : Type 0 where
@@ -35,6 +30,9 @@ pub record AdaptationField : Type 0 where
   pub countdown : Perhaps ℤ
   pub privateData : Perhaps Span
   pub extension : Perhaps Span
+  pub window : Perhaps LegalWindow
+  pub rate : Perhaps ℕ
+  pub splice : Perhaps SeamlessSplice
 
 -- ---- what the types of the code say in document 01's terms
 -- the field's length
@@ -52,11 +50,6 @@ abbrev pub toldCountdown : Countdown → Perhaps ℤ
 toldCountdown (countdown.There n) = there n
 toldCountdown countdown.Absent = absent
 
--- private data or the extension
-abbrev pub toldPart : Part → Perhaps Span
-toldPart (part.There start size) = there (record { start = start; size = size })
-toldPart part.Absent = absent
-
 -- the whole field
 abbrev pub toldField : Adaptation → AdaptationField
 toldField a =
@@ -70,6 +63,9 @@ toldField a =
       countdown = toldCountdown (a .countdown);
       privateData = toldPart (a .«private_data»);
       extension = toldPart (a .extension);
+      window = toldWindow (a .window);
+      rate = toldRate (a .rate);
+      splice = toldSplice (a .splice);
     }
 
 -- ---- length and flags
@@ -110,22 +106,17 @@ countdownPlace flags = opcrPlace flags + 6 * flag flags 3
 abbrev pub privatePlace : ℕ → ℕ
 privatePlace flags = countdownPlace flags + flag flags 2
 
--- a part with its length byte at place i: its own bytes come after that
-abbrev pub partAt : List ℕ → ℕ → Bool → Perhaps Span
-partAt s i flagged = perhaps flagged (record { start = i + 1; size = getD s i 0 })
-
--- "private data 1 + n, extension 1 + n"
-abbrev pub partSize : Perhaps Span → ℕ
-partSize absent = 0
-partSize (there part) = 1 + part .size
-
 -- the extension's length byte
 abbrev pub extensionPlace : List ℕ → ℕ → ℕ
 extensionPlace s flags = privatePlace flags + partSize (partAt s (privatePlace flags) (isFlagged flags 1))
 
+-- the extension
+abbrev pub extensionPart : List ℕ → ℕ → Perhaps Span
+extensionPart s flags = partAt s (extensionPlace s flags) (isFlagged flags 0)
+
 -- where the flagged fields end and stuffing begins
 abbrev pub fieldsEnd : List ℕ → ℕ → ℕ
-fieldsEnd s flags = extensionPlace s flags + partSize (partAt s (extensionPlace s flags) (isFlagged flags 0))
+fieldsEnd s flags = extensionPlace s flags + partSize (extensionPart s flags)
 
 -- "Their sum with the flags byte must not pass the length": the field ends at place 5 + length
 abbrev pub isOver : List ℕ → ℕ → Bool
@@ -160,21 +151,31 @@ flaggedField s size flags =
       opcr = clockAt s (opcrPlace flags) (isFlagged flags 3);
       countdown = countdownAt s (countdownPlace flags) (isFlagged flags 2);
       privateData = partAt s (privatePlace flags) (isFlagged flags 1);
-      extension = partAt s (extensionPlace s flags) (isFlagged flags 0);
+      extension = extensionPart s flags;
+      window = extendedIn s (extensionPart s flags) .window;
+      rate = extendedIn s (extensionPart s flags) .rate;
+      splice = extendedIn s (extensionPart s flags) .splice;
     }
 
 -- the field of a packet with this control
 abbrev pub fieldOf : ℕ → List ℕ → AdaptationField
 fieldOf control s = flaggedField s (perhaps (hasField control) (lengthOf s)) (flagsOf control s)
 
+-- the rows that look at the values of flagged fields
+abbrev pub valueRefusals : List ℕ → ℕ → List Row
+valueRefusals s flags =
+    (8 when isWrongClock s 6 (isFlagged flags 4))
+    ∷ (8 when isWrongClock s (opcrPlace flags) (isFlagged flags 3))
+    ∷ (36 when isUnmarked s (extensionPart s flags))
+    ∷ []
+
 -- the rows that look at the flagged fields: the fit is judged before the values
 abbrev pub flaggedRefusals : List ℕ → Bool → ℕ → List Row
 flaggedRefusals s present flags =
     (7 when (present && isOver s flags))
-    ∷ (8 when isWrongClock s 6 (isFlagged flags 4))
-    ∷ (8 when isWrongClock s (opcrPlace flags) (isFlagged flags 3))
-    ∷ []
+    ∷ (7 when isCramped s (extensionPart s flags))
+    ∷ valueRefusals s flags
 
--- "7: the adaptation field doesn't fit; 8: a PCR or OPCR extension is above 299"
+-- "7: the adaptation field doesn't fit; 8: a PCR or OPCR extension is above 299", and after it 36
 abbrev pub fieldRefusals : ℕ → List ℕ → List Row
 fieldRefusals control s = (7 when isWrongLength control (lengthOf s)) ∷ flaggedRefusals s (hasFlags control s) (flagsOf control s)

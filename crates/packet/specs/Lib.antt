@@ -1,3 +1,5 @@
+pub mod Part
+pub mod Extension
 pub mod Adaptation
 pub mod Packet
 pub mod Payload

@@ -3,10 +3,16 @@ ghost use mathlib.Core.Path.{_≡_};
 ghost use Prim.Native.Nat.{_+_, _≤_, _<_};
 ghost use lib.ListN.{length, getD};
 ghost use Rattle.ground.specs.Perhaps.{there};
-ghost use Rattle.packet.specs.Adaptation.{toldLength, toldCountdown, toldPart, toldField, isWrongLength, opcrPlace, countdownPlace, privatePlace, partSize, countdownAt, signedOf, partAt};
-ghost use Rattle.packet.specs.Steps.{toldFields, toldClocked, Parted, readClock, bareField, readFlagged, readField};
+ghost use Rattle.packet.specs.Part.{toldPart, partAt, partSize};
+ghost use Rattle.packet.specs.Adaptation.{toldLength, toldCountdown, toldField, isWrongLength, opcrPlace, countdownPlace, privatePlace, countdownAt, signedOf};
+ghost use Rattle.packet.specs.Steps.{toldFields, toldClocked, Parted, Roomy, readClock, bareField, readFitting, readFlagged, readField};
+use crate::extension;
+use crate::extension::Rate;
+use crate::extension::Splice;
+use crate::extension::Window;
 use clock::reference;
 use clock::reference::Reference;
+use octets::byte_at;
 
 // The field's length: absent where the control says that there is no field.
 pub enum Length {
@@ -43,6 +49,9 @@ pub struct Adaptation {
     pub countdown: Countdown,
     pub private_data: Part,
     pub extension: Part,
+    pub window: Window,
+    pub rate: Rate,
+    pub splice: Splice,
 }
 
 pub(crate) enum Fields {
@@ -92,15 +101,9 @@ fn part_at(bytes: &[u8], place: usize, flagged: bool) -> Part
     if !flagged {
         return Part::Absent;
     }
-    if bytes.len() <= place {
-        return Part::There {
-            start: place + 1,
-            size: 0,
-        };
-    }
     Part::There {
         start: place + 1,
-        size: bytes[place],
+        size: byte_at(bytes, place),
     }
 }
 
@@ -164,6 +167,9 @@ fn bare(size: Length) -> Adaptation
         countdown: Countdown::Absent,
         private_data: Part::Absent,
         extension: Part::Absent,
+        window: Window::Absent,
+        rate: Rate::Absent,
+        splice: Splice::Absent,
     }
 }
 
@@ -189,42 +195,65 @@ fn parts_of(bytes: &[u8], flags: u8) -> Parts
     }
 }
 
+// The field whose flagged fields fit, or the first refusal that applies to their values.
+fn fitting(bytes: &[u8], size: u8, flags: u8, parts: Parts) -> Fields
+    requires { ⌜ (length (now bytes) ≡ 188) × Parted (now bytes) flags parts × Roomy (now bytes) (toldPart (parts .extension)) ⌝ }
+    ensures { λ r. ⌜ toldFields r ≡ readFitting (now (bytes .entry)) (there size) flags ⌝ }
+{
+    let own = parts.own;
+    let extension = parts.extension;
+    let pcr = clock_at(bytes, 6, flags / 16 % 2 == 1);
+    let opcr = clock_at(bytes, opcr_place(flags), flags / 8 % 2 == 1);
+    let countdown = countdown_at(bytes, countdown_place(flags), flags / 4 % 2 == 1);
+    let inner = extension::read(bytes, extension);
+    match pcr {
+        Clocked::Refused(n) => Fields::Refused(n),
+        Clocked::Value(pcr) => match opcr {
+            Clocked::Refused(n) => Fields::Refused(n),
+            Clocked::Value(opcr) => match inner {
+                extension::Reading::Refused(n) => Fields::Refused(n),
+                extension::Reading::Value {
+                    window,
+                    rate,
+                    splice,
+                } => Fields::Value(Adaptation {
+                    length: Length::There(size),
+                    discontinuity: flags / 128 % 2 == 1,
+                    random_access: flags / 64 % 2 == 1,
+                    stream_priority: flags / 32 % 2 == 1,
+                    pcr,
+                    opcr,
+                    countdown,
+                    private_data: own,
+                    extension,
+                    window,
+                    rate,
+                    splice,
+                }),
+            },
+        },
+    }
+}
+
 // The field whose flags byte is there, or the first refusal that applies to it.
 fn flagged(bytes: &[u8], size: u8, flags: u8) -> Fields
-    requires { ⌜ (length (now bytes) ≡ 188) × (getD (now bytes) 4 0 ≡ size) ⌝ }
+    requires { ⌜ (length (now bytes) ≡ 188) × (getD (now bytes) 4 0 ≡ size) × (size ≤ 183) ⌝ }
     ensures { λ r. ⌜ toldFields r ≡ readFlagged (now (bytes .entry)) (there size) flags ⌝ }
 {
     let parts = parts_of(bytes, flags);
     if 5 + (size as usize) < parts.end {
         return Fields::Refused(7);
     }
-    let own = parts.own;
     let extension = parts.extension;
-    let pcr = clock_at(bytes, 6, flags / 16 % 2 == 1);
-    let opcr = clock_at(bytes, opcr_place(flags), flags / 8 % 2 == 1);
-    let countdown = countdown_at(bytes, countdown_place(flags), flags / 4 % 2 == 1);
-    match pcr {
-        Clocked::Refused(n) => Fields::Refused(n),
-        Clocked::Value(pcr) => match opcr {
-            Clocked::Refused(n) => Fields::Refused(n),
-            Clocked::Value(opcr) => Fields::Value(Adaptation {
-                length: Length::There(size),
-                discontinuity: flags / 128 % 2 == 1,
-                random_access: flags / 64 % 2 == 1,
-                stream_priority: flags / 32 % 2 == 1,
-                pcr,
-                opcr,
-                countdown,
-                private_data: own,
-                extension,
-            }),
-        },
+    if extension::is_cramped(bytes, extension) {
+        return Fields::Refused(7);
     }
+    fitting(bytes, size, flags, parts)
 }
 
 // The adaptation field of a packet with this control, or the first refusal that applies to it.
 pub(crate) fn read(bytes: &[u8], control: u8) -> Fields
-    requires { ⌜ length (now bytes) ≡ 188 ⌝ }
+    requires { ⌜ (length (now bytes) ≡ 188) × (control < 4) ⌝ }
     ensures { λ r. ⌜ toldFields r ≡ readField control (now (bytes .entry)) ⌝ }
 {
     if control < 2 {

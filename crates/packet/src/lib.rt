@@ -11,6 +11,7 @@ use octets::number_of_three;
 use pid::Pid;
 
 pub mod adaptation;
+pub mod extension;
 
 // "188-byte transport packets".
 pub const PACKET_BYTES: usize = 188;

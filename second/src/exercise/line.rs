@@ -10,7 +10,7 @@ pub struct Call {
 }
 
 /// Each word with the highest value of each number, and whether bytes come last.
-pub const LINES: [(&str, &[u64], bool); 30] = [
+pub const LINES: [(&str, &[u64], bool); 31] = [
     ("fresh", &[], false),
     ("area", &[7, 65_535, 255, 65_535, 255, 255, 255], false),
     ("place", &[31, 65_535, 255, 65_535], false),
@@ -36,6 +36,7 @@ pub const LINES: [(&str, &[u64], bool); 30] = [
     ("crc", &[], true),
     ("pes", &[], true),
     ("stamp", &[255], true),
+    ("anystamp", &[], true),
     ("setstamp", &[255, ANY], true),
     ("clock", &[], true),
     ("setclock", &[ANY], true),

@@ -4,8 +4,10 @@ use super::line::Call;
 use super::outcome::{digest, hexadecimal, optional, refused, told};
 use crate::pes_headers::{read_header, Full, Header, Stamps};
 use crate::refusal_numbers::Refusal;
-use crate::the_packet::{make_pid, read_packet, Part, Reading};
-use crate::time::{apart, forward, read_clock, read_stamp, write_clock, write_stamp};
+use crate::the_packet::{make_pid, read_packet, Part, Reading, Window};
+use crate::time::{
+    apart, forward, read_any_stamp, read_clock, read_stamp, write_clock, write_stamp, AnyStamp,
+};
 
 /// The outcome behind the word, or nothing where the word is none of these.
 pub fn answer(call: &Call) -> Option<String> {
@@ -16,6 +18,7 @@ pub fn answer(call: &Call) -> Option<String> {
         "alone" => alone(bytes),
         "pes" => told(read_header(bytes), header),
         "stamp" => told(read_stamp(numbers[0], bytes), |value| value.to_string()),
+        "anystamp" => told(read_any_stamp(bytes), |any| any_stamp(any, " ")),
         "clock" => told(read_clock(bytes), |value| value.to_string()),
         "setstamp" => written(bytes, |lent| write_stamp(numbers[0], numbers[1], lent)),
         "setclock" => written(bytes, |lent| write_clock(numbers[0], lent)),
@@ -53,12 +56,23 @@ fn packet_fields(reading: &Reading) -> String {
         optional(field.countdown),
         optional(field.private_data.map(part)),
         optional(field.extension.map(part)),
+        optional(field.window.map(window)),
+        optional(field.rate),
+        optional(field.splice.map(|splice| any_stamp(splice, ":"))),
     ];
     parts.join(" ")
 }
 
 fn part(part: Part) -> String {
     format!("{}:{}", part.start, part.size)
+}
+
+fn window(window: Window) -> String {
+    format!("{}:{}", u8::from(window.valid), window.offset)
+}
+
+fn any_stamp(any: AnyStamp, between: &str) -> String {
+    format!("{}{}{}", any.kind, between, any.stamp)
 }
 
 fn header(header: Header) -> String {

@@ -1,14 +1,16 @@
 //! Packets read alone, and PIDs made.
 
-use super::packets::{adaptation, clock_bytes, packet_around, spoil, Head};
+use super::extensions::{edge, extension};
+use super::packets::{adaptation, clock_bytes, packet_around, spoil, Head, FAULTS};
 use super::random::Random;
 use super::script::Script;
 
 pub fn generate(random: &mut Random, script: &mut Script) {
-    let packet = match random.below(8) {
+    let packet = match random.below(10) {
         0 => random_packet(random),
         1 => damaged(random),
         2 | 3 => whole(random),
+        4 => ending(random),
         _ => flagged(random),
     };
     script.call_with("alone", &packet);
@@ -52,7 +54,7 @@ fn random_packet(random: &mut Random) -> Vec<u8> {
 
 fn damaged(random: &mut Random) -> Vec<u8> {
     let mut packet = whole(random);
-    for fault in [10, 8, 7, 6, 5, 4, 2] {
+    for fault in FAULTS {
         if random.one_in(4) {
             spoil(random, &mut packet, fault);
         }
@@ -84,6 +86,36 @@ fn flagged(random: &mut Random) -> Vec<u8> {
         4 => random.between(exact, 182.max(exact)),
         _ => exact,
     };
+    around(random, without_payload, length, &parts)
+}
+
+/// An extension near the field's end, behind private data: its parts, its flags byte or its length byte come last or lie outside.
+fn ending(random: &mut Random) -> Vec<u8> {
+    let without_payload = random.one_in(2);
+    let length = if without_payload {
+        183
+    } else {
+        random.between(14, 182)
+    };
+    let room = random.below(13);
+    let mut extension = if random.one_in(2) {
+        extension(random, room)
+    } else {
+        edge(random)
+    };
+    match extension.get_mut(1) {
+        Some(flags) if random.one_in(3) => *flags ^= 0x20 << random.below(3),
+        _ => {}
+    }
+    let private = length - 2 - room;
+    let mut parts = vec![0x03, private as u8];
+    parts.extend(random.bytes(private));
+    parts.extend(extension);
+    around(random, without_payload, length, &parts)
+}
+
+/// A packet with the length byte and the bytes behind it, and noise up to its end.
+fn around(random: &mut Random, without_payload: bool, length: usize, parts: &[u8]) -> Vec<u8> {
     let mut head = head(random);
     head.scrambling %= 2;
     let mut packet = packet_around(random, head, &[]);
@@ -92,7 +124,7 @@ fn flagged(random: &mut Random) -> Vec<u8> {
     let noise = random.bytes(183);
     packet.splice(5.., noise);
     for (place, byte) in packet[5..].iter_mut().zip(parts) {
-        *place = byte;
+        *place = *byte;
     }
     packet
 }
@@ -104,6 +136,7 @@ fn part(random: &mut Random, bit: u32) -> Vec<u8> {
             clock_bytes(random, highest)
         }
         2 => vec![random.pick(&[0, 1, 0x7F, 0x80, 0xFF])],
+        0 => edge(random),
         _ if random.one_in(10) => adaptation(random, 170),
         _ => {
             let size = random.pick(&[0, 0, 1, 2, 30, 80]);

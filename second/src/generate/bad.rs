@@ -133,6 +133,8 @@ fn word(random: &mut Random) -> String {
     let words = [
         "packets",
         "setstampx",
+        "anystam",
+        "anystamps",
         "abcdefgh",
         "abcdefghi",
         "Fresh",

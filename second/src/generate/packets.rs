@@ -1,5 +1,6 @@
 //! Packets as generators put them together.
 
+use super::extensions::{extension, short, unmarked};
 use super::payloads::{payload_room, pointed, PAYLOAD_BYTES};
 use super::random::Random;
 use crate::numbers_of_the_house::{PACKET_BYTES, STAMP_TURN};
@@ -128,6 +129,7 @@ fn adaptation_part(random: &mut Random, bit: u32, room: usize) -> Vec<u8> {
     match bit {
         3 | 4 => clock_bytes(random, 299),
         2 => vec![random.byte()],
+        0 => extension(random, room),
         _ => {
             let most = room.saturating_sub(1);
             let size = random.below(most.min(12) + 1);
@@ -154,6 +156,15 @@ pub fn clock_bytes(random: &mut Random, highest: usize) -> Vec<u8> {
     bytes
 }
 
+/// The faults of a packet itself, put on in this order so that none undoes another.
+pub const FAULTS: [usize; 8] = [10, 8, 36, 7, 6, 5, 4, 2];
+
+/// Spoils a whole packet in some way.
+pub fn spoil_somehow(random: &mut Random, packet: &mut Vec<u8>) {
+    let fault = random.pick(&FAULTS);
+    spoil(random, packet, fault);
+}
+
 /// One of the ways in which a whole packet is spoilt, each with its refusal.
 pub fn spoil(random: &mut Random, packet: &mut Vec<u8>, fault: usize) {
     packet.resize(PACKET_BYTES, 0xFF);
@@ -171,6 +182,10 @@ pub fn spoil(random: &mut Random, packet: &mut Vec<u8>, fault: usize) {
             part.extend(bad_clock(random));
             packet.splice(4..12, part);
         }
+        36 => {
+            let extension = unmarked(random);
+            extend(random, packet, &extension);
+        }
         _ => packet[3] |= random.pick(&[0x40, 0x80, 0xC0]),
     }
 }
@@ -183,7 +198,25 @@ fn bad_clock(random: &mut Random) -> Vec<u8> {
     bytes
 }
 
+/// Puts an extension into the field, behind its clock references and instead of all else.
+fn extend(random: &mut Random, packet: &mut [u8], extension: &[u8]) {
+    let flagged = packet[3] & 0x20 != 0 && packet[4] > 0;
+    let clocks = if flagged { packet[5] & 0x18 } else { 0 };
+    let start = 6 + 6 * clocks.count_ones() as usize;
+    let end = start + extension.len();
+    packet[start..end].copy_from_slice(extension);
+    packet[5] = clocks | 0x01;
+    packet[3] |= 0x20;
+    let without_payload = packet[3] & 0x10 == 0;
+    let length = random.pick(&[end - 5, end - 5, end - 4, 100, 182]);
+    packet[4] = if without_payload { 183 } else { length as u8 };
+}
+
 fn spoil_adaptation(random: &mut Random, packet: &mut [u8]) {
+    if random.one_in(4) {
+        let extension = short(random);
+        return extend(random, packet, &extension);
+    }
     let control = random.pick(&[0x20, 0x30]);
     packet[3] = packet[3] & 0xCF | control;
     let lengths: [u8; 5] = if control == 0x20 {

@@ -1,5 +1,6 @@
 //! Stamps and clock references, read, written and taken apart.
 
+use super::extensions::{splice, unmark};
 use super::packets::clock_bytes;
 use super::random::Random;
 use super::script::{field, Script};
@@ -11,6 +12,8 @@ pub fn generate(random: &mut Random, script: &mut Script) {
     let prefix = prefix(random);
     let stamp = stamp_bytes(random, prefix);
     script.call_with(&format!("stamp {}", prefix), &stamp);
+    let any = any_stamp(random);
+    script.call_with("anystamp", &any);
     let value = stamp_value(random);
     let lent = lent(random);
     script.call(&format!("setstamp {} {} {}", prefix, value, field(&lent)));
@@ -78,6 +81,17 @@ fn stamp_bytes(random: &mut Random, prefix: u64) -> Vec<u8> {
         2 => bytes[0] ^= 0x10 << random.below(4),
         _ => {}
     }
+    bytes.truncate(size(random, 5));
+    bytes
+}
+
+/// A stamp behind any four bits, at times without a marker, with bytes missing or with more behind it.
+fn any_stamp(random: &mut Random) -> Vec<u8> {
+    let mut bytes = splice(random);
+    if random.one_in(4) {
+        unmark(random, &mut bytes);
+    }
+    bytes.extend(random.bytes(5));
     bytes.truncate(size(random, 5));
     bytes
 }

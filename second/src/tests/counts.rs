@@ -1,4 +1,4 @@
-//! What coverage counts in the states that outcomes print.
+//! What coverage counts in the states, sets and extensions that outcomes print.
 
 use crate::coverage::Counts;
 
@@ -95,5 +95,45 @@ fn sections_that_nobody_lets_through_are_counted() {
             told, sets, state
         ));
         assert_eq!(counts.get("nobody"), expected, "{} {}", told, sets);
+    }
+}
+
+#[test]
+fn parts_of_extensions_are_counted() {
+    let read = "0 0 256 0 3 0 13 0 0 0 - - - -";
+    let cases = [
+        ("- - - -", [0, 0, 0, 0]),
+        ("7:1 - - -", [0, 0, 0, 1]),
+        ("7:3 0:0 - -", [1, 0, 0, 0]),
+        ("7:4 - 0 -", [0, 1, 0, 0]),
+        ("7:6 - - 0:0", [0, 0, 1, 0]),
+        ("7:11 1:4660 2800862 5:90000", [1, 1, 1, 0]),
+    ];
+    let count = |line: &str, expected: [u64; 4]| {
+        let mut counts = Counts::default();
+        counts.outcome(line);
+        let marks = ["window", "rate", "splice", "unflagged"];
+        assert_eq!(marks.map(|mark| counts.get(mark)), expected, "{}", line);
+    };
+    for (told, expected) in cases {
+        count(&format!("alone {} {} payload 170 1", read, told), expected);
+    }
+    count("alone refused 36 payload 0 1", [0; 4]);
+    count("pid 7", [0; 4]);
+}
+
+#[test]
+fn refusals_36_that_nobody_asked_for_are_counted() {
+    let used = state("0 1 5 0");
+    let cases = [
+        ("packet refused 36", "next 1", 1),
+        ("packet refused 36", &used, 0),
+        ("packet refused 8", "next 1", 0),
+        ("packet unwanted", "next 1", 0),
+    ];
+    for (told, state, expected) in cases {
+        let mut counts = Counts::default();
+        counts.outcome(&format!("{} store - output - sets - {}", told, state));
+        assert_eq!(counts.get("unwanted36"), expected, "{} {}", told, state);
     }
 }

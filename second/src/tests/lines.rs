@@ -40,6 +40,14 @@ fn request_03_as_a_script() {
 }
 
 #[test]
+fn request_06_as_a_script() {
+    answered(
+        include_str!("../../examples/request-06.script"),
+        include_str!("../../examples/request-06.expected"),
+    );
+}
+
+#[test]
 fn request_10_as_a_script() {
     answered(
         include_str!("../../examples/request-10.script"),
@@ -47,7 +55,7 @@ fn request_10_as_a_script() {
     );
 }
 
-const MALFORMED: [&str; 49] = [
+const MALFORMED: [&str; 52] = [
     "",
     " ",
     "Open 1 2",
@@ -97,6 +105,9 @@ const MALFORMED: [&str; 49] = [
     "pat =00 1",
     "fresh 1",
     "setstampx 1 1 =",
+    "anystamp",
+    "anystamp 1 =",
+    "anystamps =",
 ];
 
 #[test]
@@ -133,6 +144,7 @@ fn lines_at_their_limits() {
         ),
         ("alone =", "alone refused 2 payload 0 1"),
         ("crc =", "crc wrong"),
+        ("anystamp =", "anystamp refused 41"),
     ];
     for (line, expected) in pairs {
         assert_eq!(outcome(line), expected);

@@ -1,7 +1,9 @@
 //! The stamps, references and differences of document 01.
 
 use crate::refusal_numbers::Refusal;
-use crate::time::{apart, forward, read_clock, read_stamp, write_clock, write_stamp};
+use crate::time::{
+    apart, forward, read_any_stamp, read_clock, read_stamp, write_clock, write_stamp, AnyStamp,
+};
 
 const LAST_STAMP: u64 = 8_589_934_591;
 
@@ -44,6 +46,44 @@ fn lone_stamps_are_refused_in_order() {
         assert_eq!(read_stamp(2, &wrong), Err(Refusal(36)));
     }
     assert_eq!(write_stamp(1, 0, &mut [0; 4]), Err(Refusal(41)));
+}
+
+#[test]
+fn stamps_behind_any_four_bits() {
+    let any = |kind, stamp| Ok(AnyStamp { kind, stamp });
+    let examples: [(&[u8], _); 8] = [
+        (&[0x0F, 0xFF, 0xFF, 0xFF, 0xFF], any(0, LAST_STAMP)),
+        (&[0xF1, 0x00, 0x01, 0x00, 0x01], any(15, 0)),
+        (&[0x51, 0x00, 0x05, 0xBF, 0x21, 0x00], any(5, 90_000)),
+        (&[0x50, 0x00, 0x05, 0xBF, 0x21], Err(Refusal(36))),
+        (&[0x51, 0x00, 0x04, 0xBF, 0x21], Err(Refusal(36))),
+        (&[0x51, 0x00, 0x05, 0xBF, 0x20], Err(Refusal(36))),
+        (&[0x50, 0x00, 0x05, 0xBF], Err(Refusal(41))),
+        (&[], Err(Refusal(41))),
+    ];
+    for (bytes, expected) in examples {
+        assert_eq!(read_any_stamp(bytes), expected);
+    }
+}
+
+#[test]
+fn both_ways_to_read_a_stamp_agree() {
+    for value in (0..33).map(|bit| 1 << bit).chain([0, LAST_STAMP]) {
+        for kind in 0..16 {
+            let mut bytes = written_stamp(1, value).unwrap();
+            bytes[0] = bytes[0] % 16 + 16 * kind as u8;
+            let stamp = value;
+            assert_eq!(read_any_stamp(&bytes), Ok(AnyStamp { kind, stamp }));
+            for prefix in 1..=3 {
+                let right = if kind == prefix {
+                    Ok(value)
+                } else {
+                    Err(Refusal(36))
+                };
+                assert_eq!(read_stamp(prefix, &bytes), right);
+            }
+        }
+    }
 }
 
 #[test]

@@ -2,11 +2,13 @@
 use mathlib.Core.List.{List}
 use Prim.Native.Nat.{ℕ}
 use Rattle.ground.specs.Outcome.{Determined}
-use Rattle.clock.specs.Promises.{ReadsStamp, WritesStamp, TellsApart, ReadsReference, WritesReference, TellsAhead}
+use Rattle.clock.specs.Promises.{ReadsStamp, ReadsAnyStamp, WritesStamp, TellsApart, ReadsReference, WritesReference, TellsAhead}
 
 pub record Outcomes : Type 0 where
   -- the answer to reading a stamp
   pub readsStamp : (s : List ℕ) (prefix : ℕ) → Determined (ReadsStamp s prefix)
+  -- the answer to reading one behind any four bits
+  pub readsAnyStamp : (s : List ℕ) → Determined (ReadsAnyStamp s)
   -- the answer to writing one, and every lent byte after it
   pub writesStamp : (s : List ℕ) (prefix v : ℕ) → Determined (WritesStamp s prefix v)
   -- the signed difference of two stamps

@@ -3,7 +3,7 @@ use mathlib.Core.List.{List}
 use Prim.Native.Nat.{ℕ}
 use Rattle.ground.specs.Refusal.{Row, Exact, ExactCall}
 use Rattle.clock.specs.Written.{Wrote, unwritten}
-use Rattle.clock.specs.Stamp.{stampReadRefusals, readStamp, stampWriteRefusals, writeStamp}
+use Rattle.clock.specs.Stamp.{stampReadRefusals, readStamp, anyStampRefusals, readAnyStamp, stampWriteRefusals, writeStamp}
 use Rattle.clock.specs.Reference.{referenceReadRefusals, readReference, referenceWriteRefusals, writeReference}
 use Rattle.clock.specs.Difference.{stampDifferenceRefusals, stampDifference, referenceForwardRefusals, referenceForward}
 
@@ -14,6 +14,8 @@ ExactWrite s rows w = ExactCall rows (λ (x : Wrote). x .answer) (unwritten s) w
 pub record Refusals : Type 0 where
   -- "Reading a lone field: 40 (prefix), 41, 36 or 8", of a stamp
   pub stampRead : (s : List ℕ) (prefix : ℕ) → Exact (stampReadRefusals s prefix) (readStamp s prefix)
+  -- the same of a stamp behind any four bits: 41, 36
+  pub anyStampRead : (s : List ℕ) → Exact (anyStampRefusals s) (readAnyStamp s)
   -- the same of a clock reference
   pub referenceRead : (s : List ℕ) → Exact (referenceReadRefusals s) (readReference s)
   -- "Writing one: 40, 41", of a stamp

@@ -1,13 +1,17 @@
--- Document 01, "The packet" and "Numbers of the house": what holds of every packet that is accepted.
+-- Document 01, "The packet" and "Numbers of the house", and document 02, ticket 6: what holds of every packet that is accepted.
 use mathlib.Core.Path.{_≡_}
+use mathlib.Core.Bool.{true}
 use mathlib.Core.List.{List}
-use Prim.Native.Nat.{ℕ, _+_, _-_, _^_, _≤_, _<_}
-use lib.ListN.{length, drop}
+use mathlib.Core.Logic.{_↔_}
+use Prim.Native.Nat.{ℕ, _+_, _*_, _-_, _^_, _≤_, _<_}
+use lib.ListN.{length, getD, drop}
 use Rattle.ground.specs.House.{packetBytes, payloadBytes}
 use Rattle.ground.specs.Answer.{given}
-use Rattle.ground.specs.Perhaps.{Perhaps, there, absent}
-use Rattle.clock.specs.Range.{referenceTurn}
-use Rattle.packet.specs.Adaptation.{Span}
+use Rattle.ground.specs.Number.{isFlagged}
+use Rattle.ground.specs.Perhaps.{Perhaps, there, absent, presence}
+use Rattle.clock.specs.Range.{stampTurn, referenceTurn}
+use Rattle.packet.specs.Part.{Span}
+use Rattle.packet.specs.Extension.{LegalWindow, SeamlessSplice}
 use Rattle.packet.specs.Packet.{Contents, readPacket}
 use Rattle.packet.specs.Payload.{startAfter, payloadStart}
 
@@ -18,6 +22,10 @@ Inside s part = (span : Span) → part ≡ there span → span .start + span .si
 -- "Clock reference: 0 to 2,576,980,377,599"
 abbrev pub InRange : Perhaps ℕ → Type 0
 InRange clock = (v : ℕ) → clock ≡ there v → v < referenceTurn
+
+-- the extension is there, and so is the flag of its flags byte that has `after` bits after it
+abbrev pub Flagged : List ℕ → Perhaps Span → ℕ → Type 0
+Flagged s extension after = (span : Span) × ((extension ≡ there span) × (isFlagged (getD s (span .start) 0) after ≡ true))
 
 -- of a packet s that reads as p
 pub record Accepted (s : List ℕ) (p : Contents) : Type 0 where
@@ -43,6 +51,17 @@ pub record Accepted (s : List ℕ) (p : Contents) : Type 0 where
   -- private data and extension stand before the payload
   pub privateData : Inside s (p .field .privateData)
   pub extension : Inside s (p .field .extension)
+  -- "reports each, or its absence": a part of the extension is there exactly if the extension and its flag are
+  pub windowThere : (presence (p .field .window) ≡ 1) ↔ Flagged s (p .field .extension) 7
+  pub rateThere : (presence (p .field .rate) ≡ 1) ↔ Flagged s (p .field .extension) 6
+  pub spliceThere : (presence (p .field .splice) ≡ 1) ↔ Flagged s (p .field .extension) 5
+  -- "n at least 1, with flagged parts inside n"
+  pub parts : (span : Span) → p .field .extension ≡ there span
+      → 1 + 2 * presence (p .field .window) + 3 * presence (p .field .rate) + 5 * presence (p .field .splice) ≤ span .size
+  -- "15-bit offset", "22 bits", "4-bit type, 33-bit stamp"
+  pub window : (w : LegalWindow) → p .field .window ≡ there w → w .offset < 2 ^ 15
+  pub rate : (n : ℕ) → p .field .rate ≡ there n → n < 2 ^ 22
+  pub splice : (x : SeamlessSplice) → p .field .splice ≡ there x → (x .spliceType < 2 ^ 4) × (x .stamp < stampTurn)
 
 -- every packet that is accepted
 abbrev pub EveryAccepted : Type 0

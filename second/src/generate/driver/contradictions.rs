@@ -1,7 +1,7 @@
 //! Held bytes that contradict their record in each way, or just do not.
 
 use super::super::choices::named_choice;
-use super::super::packets::any_packet;
+use super::super::packets::{any_packet, spoil_somehow};
 use super::super::random::Random;
 use super::super::script::Script;
 use super::super::sections::section_head;
@@ -36,7 +36,10 @@ pub fn contradiction(random: &mut Random, script: &mut Script) {
     script.state(&state);
     script.store(index * AREA_BYTES, &head);
     for _ in 0..random.between(1, 3) {
-        let packet = any_packet(random, pid, counter);
+        let mut packet = any_packet(random, pid, counter);
+        if random.one_in(5) {
+            spoil_somehow(random, &mut packet);
+        }
         script.packet(&packet);
     }
     if random.one_in(3) {

@@ -1,14 +1,11 @@
 //! Packets with one fault or several, so that the order of refusals is seen.
 
 use super::super::choices::choice;
-use super::super::packets::{any_packet, spoil};
+use super::super::packets::{any_packet, spoil, FAULTS};
 use super::super::random::Random;
 use super::super::script::Script;
 use super::states::filter_pid;
 use crate::numbers_of_the_house::{LEAST_LIST_PLACES, LEAST_OUTPUT_BYTES, STORE_BYTES};
-
-/// The faults of the packet itself, put on in this order so that none undoes another.
-const FAULTS: [usize; 7] = [10, 8, 7, 6, 5, 4, 2];
 
 pub fn fault(random: &mut Random, script: &mut Script) {
     let pid = filter_pid(random);
@@ -17,7 +14,12 @@ pub fn fault(random: &mut Random, script: &mut Script) {
         script.open(pid, choice(random));
     }
     for counter in 0..random.between(3, 8) {
-        let mut packet = any_packet(random, pid, counter as u8);
+        let met = if random.one_in(6) {
+            filter_pid(random)
+        } else {
+            pid
+        };
+        let mut packet = any_packet(random, met, counter as u8);
         let first = random.below(FAULTS.len() + 2);
         let mut faults: Vec<usize> = FAULTS.get(first).copied().into_iter().collect();
         while random.one_in(4) {

@@ -1,7 +1,7 @@
 //! Streams of sections on several PIDs, whole or damaged.
 
 use super::super::choices::{choice, named_choice};
-use super::super::packets::{any_packet, packet_around, spoil, Head};
+use super::super::packets::{any_packet, packet_around, spoil_somehow, Head};
 use super::super::payloads::loads;
 use super::super::random::Random;
 use super::super::script::Script;
@@ -98,8 +98,7 @@ fn damaged(random: &mut Random, packets: Vec<Vec<u8>>, one_in: usize) -> Vec<Vec
                 left.push(packet);
             }
             4 => {
-                let fault = random.pick(&[2, 4, 5, 6, 7, 8, 10]);
-                spoil(random, &mut packet, fault);
+                spoil_somehow(random, &mut packet);
                 left.push(packet);
             }
             5 => {

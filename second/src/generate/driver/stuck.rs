@@ -1,7 +1,7 @@
 //! Counters that stand still, on areas taken anew and on records with or without the mark of a repeat.
 
 use super::super::choices::choice;
-use super::super::packets::{counter_after, packet_around, packet_with, spoil, Head};
+use super::super::packets::{counter_after, packet_around, packet_with, spoil_somehow, Head};
 use super::super::payloads::payload_room;
 use super::super::random::Random;
 use super::super::script::Script;
@@ -61,8 +61,7 @@ fn standing(random: &mut Random, pid: u16, counter: u8) -> Vec<u8> {
         1 => pointing_past(random, pid, counter),
         2 => {
             let mut packet = packet_with(random, pid, counter);
-            let fault = random.pick(&[2, 4, 5, 6, 7, 8, 10]);
-            spoil(random, &mut packet, fault);
+            spoil_somehow(random, &mut packet);
             packet
         }
         _ => packet_with(random, pid, counter),

@@ -1,33 +1,29 @@
--- The fit is one test on where the flagged fields end; after it the two clock references are judged one after the other.
+-- The fit is two tests, on where the flagged fields end and on the extension's own size; after them each flagged field lies in the packet.
 -- Assumes nothing.
-use mathlib.Core.Path.{_≡_, refl, ap, sym, _∙_}
+use mathlib.Core.Path.{_≡_, sym, _∙_}
 use Prim.Native.Nat.{_+_, _<_, _≤_}
+use native.Mathlib.Omega.{arith}
 use borrow.Author.Tests.{lt-ltb, le-ltb}
 use denote.Ref.{now}
-use Rattle.ground.specs.Perhaps.{there}
-use Rattle.packet.specs.Adaptation.{lengthOf, fieldsEnd, flaggedField}
-use Rattle.packet.specs.Steps.{toldClocked, readFlagged}
-use Rattle.packet.specs.declared.adaptation.Clocked.{Clocked}
-use Rattle.ground.proofs.Judged.{joined}
-use Rattle.packet.proofs.Flagged.{withClocks, flagged-read}
+use Rattle.ground.specs.Number.{isFlagged}
+use Rattle.packet.specs.Extension.{isCramped}
+use Rattle.packet.specs.Adaptation.{lengthOf, extensionPlace, extensionPart, fieldsEnd}
+use Rattle.packet.proofs.Flagged.{roomy}
 use borrow.Author.Needs.{needs}
 use Rattle.packet.proofs.adaptation.flagged.Statement.{statement}
 use Rattle.packet.proofs.adaptation.flagged.Tie as tie
 
--- where both clock references are read, what they make of the field
-both-read : (c : tie.After-countdown-at) (pcr opcr : Clocked) → c .before .before .before .before .clock-at .result ≡ pcr → c .before .before .clock-at2 .result ≡ opcr
-    → let a = c .before .before .before .before .before .before .before .before .before .args in
-    let s = now (a .bytes) in
-    joined (withClocks (flaggedField s (there (a .size)) (a .flags))) (toldClocked pcr) (toldClocked opcr) ≡ readFlagged s (there (a .size)) (a .flags)
-both-read c pcr opcr p o =
-    let start = c .before .before .before .before .before .before .before .before .before in
-    let a = start .args in
-    let s = now (a .bytes) in
-    let end = c .before .before .before .before .before .before .before .parts-of .ensures .end in
-    let fit : fieldsEnd s (a .flags) ≤ 5 + lengthOf s = rw (← end, start .pre .1) (c .before .before .before .before .before .if1 .left) in
-    let first = ap toldClocked (sym p) ∙ c .before .before .before .before .clock-at .ensures in
-    let second = ap toldClocked (sym o) ∙ (rw (c .before .before .before .opcr-place .ensures) at (c .before .before .clock-at2 .ensures)) in
-    flagged-read s (there (a .size)) (a .flags) (toldClocked pcr) (toldClocked opcr) (le-ltb (5 + lengthOf s) (fieldsEnd s (a .flags)) fit) first second
+-- past the first test the flagged fields end in the field
+within : (c : tie.Else1)
+    → let a = c .before .before .before .before .args in
+    fieldsEnd (now (a .bytes)) (a .flags) ≤ 5 + lengthOf (now (a .bytes))
+within c = rw (← c .before .before .parts-of .ensures .end, c .before .before .before .before .pre .1) (c .if1 .left)
+
+-- the second test is the definition's
+cramped : (c : tie.After-is-cramped)
+    → let a = c .before .before .before .before .before .args in
+    c .is-cramped .result ≡ isCramped (now (a .bytes)) (extensionPart (now (a .bytes)) (a .flags))
+cramped c = rw (c .before .before .before .parts-of .ensures .extension) at (c .is-cramped .ensures)
 
 parts-of-requires : tie.Need-parts-of-requires
 parts-of-requires c κs = search needs
@@ -42,45 +38,31 @@ returns c =
     let over : 5 + lengthOf s < fieldsEnd s (a .flags) = rw (← c .before .before .parts-of .ensures .end, c .before .before .before .before .pre .1) (c .if1 .taken) in
     rw (lt-ltb (5 + lengthOf s) (fieldsEnd s (a .flags)) over)
 
-clock-at-requires : tie.Need-clock-at-requires
-clock-at-requires c κs = search needs
-
-opcr-place-requires : tie.Need-opcr-place-requires
-opcr-place-requires c κs = search needs
-
-clock-at-requires-2 : tie.Need-clock-at-requires-2
-clock-at-requires-2 c κs = search needs
-
-countdown-place-requires : tie.Need-countdown-place-requires
-countdown-place-requires c κs = search needs
-
-countdown-at-requires : tie.Need-countdown-at-requires
-countdown-at-requires c κs = search needs
-
-enum-known-pcr : tie.Need-enum-known-pcr
-enum-known-pcr c = search needs
-
-enum-known-pcr-2 : tie.Need-enum-known-pcr-2
-enum-known-pcr-2 c = search needs
-
-enum-known-opcr : tie.Need-enum-known-opcr
-enum-known-opcr c = search needs
-
-enum-known-opcr-2 : tie.Need-enum-known-opcr-2
-enum-known-opcr-2 c = search needs
+is-cramped-requires : tie.Need-is-cramped-requires
+is-cramped-requires c κs = search needs
 
 returns-2 : tie.Need-returns-2
-returns-2 c = both-read (c .before .before .before) _ _ (c .before .pcr .given .1) refl
+returns-2 c =
+    let a = c .before .before .before .before .before .before .args in
+    let s = now (a .bytes) in
+    rw (le-ltb (5 + lengthOf s) (fieldsEnd s (a .flags)) (within (c .before .before)), sym (cramped (c .before)) ∙ c .if2 .taken)
+
+fitting-requires : tie.Need-fitting-requires
+fitting-requires c κs =
+    let start = c .before .before .before .before .before .before in
+    let s = now (start .args .bytes) in
+    let flags = start .args .flags in
+    let parts = c .before .before .before .before .parts-of .ensures in
+    let inside = within (c .before .before) in
+    let size : lengthOf s ≤ 183 = rw (start .pre .1) (start .pre .2) in
+    (start .pre .0, parts, rw (parts .extension) (roomy s (extensionPlace s flags) (isFlagged flags 0) (omega arith) (sym (cramped (c .before)) ∙ c .if2 .left)))
 
 returns-3 : tie.Need-returns-3
-returns-3 c = both-read (c .before .before .before .before .before .before) _ _ (c .before .before .before .before .pcr2 .given .1) (c .before .opcr .given .1)
-
-returns-4 : tie.Need-returns-4
-returns-4 c =
-    let at = c .before .before .before .before .before .before in
-    let parts = at .before .before .before .before .before .before .before .parts-of .ensures in
-    let countdown = rw (at .before .countdown-place .ensures) at (at .countdown-at .ensures) in
-    rw (parts .own, parts .extension, countdown) (both-read at _ _ (c .before .before .before .before .pcr2 .given .1) (c .before .opcr2 .given .1))
+returns-3 c =
+    let a = c .before .before .before .before .before .before .before .args in
+    let s = now (a .bytes) in
+    rw (le-ltb (5 + lengthOf s) (fieldsEnd s (a .flags)) (within (c .before .before .before)), sym (cramped (c .before .before)) ∙ c .before .if2 .left)
+    (c .fitting .ensures)
 
 pub flagged-spec : {M : Type 1} → statement M
 flagged-spec =
@@ -89,15 +71,7 @@ flagged-spec =
     parts-of-requires
     add-if1
     returns
-    clock-at-requires
-    opcr-place-requires
-    clock-at-requires-2
-    countdown-place-requires
-    countdown-at-requires
-    enum-known-pcr
-    enum-known-pcr-2
-    enum-known-opcr
-    enum-known-opcr-2
+    is-cramped-requires
     returns-2
-    returns-3
-    returns-4)
+    fitting-requires
+    returns-3)
