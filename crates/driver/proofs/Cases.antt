@@ -1,18 +1,20 @@
 -- The ways of a call: a refusal leaves everything as it was, and an accepted call passed every row of its table.
 -- Assumes nothing.
 use mathlib.Core.Path.{_≡_, refl}
-use mathlib.Core.Bool.{Bool, true, false, cond, not}
-use mathlib.Core.List.{List}
+use mathlib.Core.Bool.{Bool, true, false, cond, not, _&&_}
+use mathlib.Core.List.{List, [], _∷_}
 use Prim.Native.Nat.{ℕ, _/_, _^_, _≤_, _<_}
 use native.Mathlib.Nat.{mod-lt}
 use native.Mathlib.Omega.{arith}
-use borrow.Author.Tests.{ltb-false, leb-false, leb-true, eqb-true, not-true, not-false}
+use borrow.Author.Tests.{ltb-false, leb-false, leb-true, eqb-true, eqb-false, not-true, not-false}
 use lib.Dec.{leb, eqb, ltb, lit<}
 use lib.ListN.{length}
 use Rattle.ground.specs.Answer.{refused, given}
-use Rattle.ground.specs.Refusal.{Silent}
+use Rattle.ground.specs.Refusal.{Row, Silent, _when_}
+use Rattle.ground.specs.Walk.{Every, all}
 use Rattle.ground.proofs.Judged.{judge-ind}
-use Rattle.packet.specs.Packet.{headerOf, contents}
+use Rattle.ground.proofs.Test.{both-true}
+use Rattle.packet.specs.Packet.{headerOf, contents, packetRefusals}
 use Rattle.packet.specs.Payload.{payloadOf}
 use Rattle.packet.proofs.PayloadSize.{at-most-184}
 use Rattle.gather.specs.Memory.{contradictsOf}
@@ -23,7 +25,7 @@ use Rattle.state.specs.declared.State.{State}
 use Rattle.sound.specs.Sound.{sound}
 use Rattle.open_call.specs.Open as opening
 use Rattle.close_call.specs.Close as closing
-use Rattle.packet_call.specs.Packet.{AfterPacket, asGiven, unwanted, pidOf, heldIn, firstRefusals, lastRefusals, outcome, putBack, afterTests, afterReading, packetOf}
+use Rattle.packet_call.specs.Packet.{AfterPacket, asGiven, unwanted, pidOf, heldIn, isWrongSize, firstRefusals, lastRefusals, outcome, putBack, afterTests, afterReading, packetOf}
 use Rattle.packet_call.proofs.Order.{sizes-right}
 
 -- ---- open
@@ -111,30 +113,23 @@ module _ (s : State) (p store out sets : List ℕ) (P : AfterPacket → Type 0) 
   packet-ind refuses none on =
       judge-ind (λ n. asGiven s store out sets (refused n)) P (firstRefusals s p store out sets) (afterReading s own p store out sets) (
         λ e. refuses 1 (λ z. not-true (sound s) e) (λ z. absurd (omega arith)),
-        (
-          λ e. other 3 (omega arith) (omega arith),
-          (
-            λ e. other 2 (omega arith) (omega arith),
-            (
-              λ e. other 4 (omega arith) (omega arith),
-              (
-                λ e. other 5 (omega arith) (omega arith),
-                (
-                  λ e. other 6 (omega arith) (omega arith),
-                  (
-                    λ e. other 7 (omega arith) (omega arith),
-                    (λ e. other 7 (omega arith) (omega arith), (λ e. other 8 (omega arith) (omega arith), (λ e. other 8 (omega arith) (omega arith), tt))),
-                  ),
-                ),
-              ),
-            ),
-          ),
-        ),
+        others ((3 when isWrongSize store out sets) ∷ packetRefusals p) refl,
       )
       (λ rows. wants rows (leb (length (s .areas)) own) refl)
     where
       other : (n : ℕ) → (n ≡ 1 → ⊥) → (n ≡ 9 → ⊥) → P (asGiven s store out sets (refused n))
       other n a b = refuses n (λ z. absurd (a z)) (λ z. absurd (b z))
+
+      -- every row but the first has another number than 1 and 9
+      others : (rows : List Row) → all (λ row. not (eqb (row .number) 1) && not (eqb (row .number) 9)) rows ≡ true
+          → Every (λ row. row .applies ≡ true → P (asGiven s store out sets (refused (row .number)))) rows
+      others [] e = tt
+      others (row ∷ rows) e =
+          let both = both-true (not (eqb (row .number) 1) && not (eqb (row .number) 9)) _ e in
+          let numbers = both-true (not (eqb (row .number) 1)) (not (eqb (row .number) 9)) (both .0) in (
+            λ a. other (row .number) (eqb-false (row .number) 1 (not-true (eqb (row .number) 1) (numbers .0))) (eqb-false (row .number) 9 (not-true (eqb (row .number) 9) (numbers .1))),
+            others rows (both .1),
+          )
 
       wants : Silent (firstRefusals s p store out sets) → (b : Bool) → leb (length (s .areas)) own ≡ b
           → P (cond b (asGiven s store out sets (given unwanted)) (afterTests s own p store out sets))

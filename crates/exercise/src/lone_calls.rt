@@ -19,6 +19,9 @@ use packet::adaptation::Clock;
 use packet::adaptation::Countdown;
 use packet::adaptation::Length;
 use packet::adaptation::Part;
+use packet::extension::Rate;
+use packet::extension::Splice;
+use packet::extension::Window;
 use pes::Header;
 use pes::stamps::Stamps;
 use pid::Making;
@@ -57,6 +60,9 @@ fn reading(line: Line, bytes: &[u8], text: &mut [u8], at: usize) -> usize {
     }
     if line.is(b"stamp", 1, true) & line.within(255, 0) {
         return read_stamp(eight_bits(n[0]), bytes, text, at);
+    }
+    if line.is(b"anystamp", 0, true) {
+        return read_any_stamp(bytes, text, at);
     }
     if line.is(b"clock", 0, true) {
         return read_clock(bytes, text, at);
@@ -128,6 +134,19 @@ fn read_stamp(prefix: u8, bytes: &[u8], text: &mut [u8], at: usize) -> usize {
     }
 }
 
+// A stamp read behind any four bits, and these bits.
+fn read_any_stamp(bytes: &[u8], text: &mut [u8], at: usize) -> usize {
+    let end = text::word(text, at, b"anystamp");
+    let answer = stamp::read_any(bytes);
+    match answer {
+        stamp::AnyReading::Refused(n) => outcome::refused(text, end, n),
+        stamp::AnyReading::Value { prefix, stamp } => {
+            let row = [prefix as u64, stamp.0];
+            outcome::numbers(text, end, &row)
+        }
+    }
+}
+
 // A clock reference read.
 fn read_clock(bytes: &[u8], text: &mut [u8], at: usize) -> usize {
     let end = text::word(text, at, b"clock");
@@ -192,7 +211,18 @@ fn adaptation(field: Adaptation, text: &mut [u8], at: usize) -> usize {
     end = field_clock(opcr, text, end);
     end = field_countdown(countdown, text, end);
     end = field_part(private_data, text, end);
-    field_part(extension, text, end)
+    end = field_part(extension, text, end);
+    extended(field, text, end)
+}
+
+// The parts of an adaptation field's extension.
+fn extended(field: Adaptation, text: &mut [u8], at: usize) -> usize {
+    let window = field.window;
+    let rate = field.rate;
+    let splice = field.splice;
+    let mut end = field_window(window, text, at);
+    end = field_rate(rate, text, end);
+    field_splice(splice, text, end)
 }
 
 // An adaptation field's length, where there is one.
@@ -223,11 +253,41 @@ fn field_countdown(countdown: Countdown, text: &mut [u8], at: usize) -> usize {
 fn field_part(part: Part, text: &mut [u8], at: usize) -> usize {
     match part {
         Part::Absent => outcome::missing(text, at),
-        Part::There { start, size } => {
-            let mut end = outcome::number(text, at, start as u64);
-            end = text::byte(text, end, b':');
-            text::decimal(text, end, size as u64)
-        }
+        Part::There { start, size } => outcome::pair(text, at, start as u64, size as u64),
+    }
+}
+
+// A legal time window, where there is one.
+fn field_window(window: Window, text: &mut [u8], at: usize) -> usize {
+    match window {
+        Window::Absent => outcome::missing(text, at),
+        Window::There { valid, offset } => outcome::pair(
+            text,
+            at,
+            outcome::yes(valid),
+            offset as u64,
+        ),
+    }
+}
+
+// A piecewise rate, where there is one.
+fn field_rate(rate: Rate, text: &mut [u8], at: usize) -> usize {
+    match rate {
+        Rate::Absent => outcome::missing(text, at),
+        Rate::There(n) => outcome::number(text, at, n as u64),
+    }
+}
+
+// A seamless splice, where there is one.
+fn field_splice(splice: Splice, text: &mut [u8], at: usize) -> usize {
+    match splice {
+        Splice::Absent => outcome::missing(text, at),
+        Splice::There { splice_type, stamp } => outcome::pair(
+            text,
+            at,
+            splice_type as u64,
+            stamp.0,
+        ),
     }
 }
 

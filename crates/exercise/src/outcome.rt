@@ -33,6 +33,13 @@ fn below_zero(n: i64) -> u64 {
     0
 }
 
+// A space and two numbers with a colon between them.
+pub(crate) fn pair(text: &mut [u8], at: usize, a: u64, b: u64) -> usize {
+    let mut end = number(text, at, a);
+    end = text::byte(text, end, b':');
+    text::decimal(text, end, b)
+}
+
 // Numbers, each behind a space.
 pub(crate) fn numbers(text: &mut [u8], at: usize, numbers: &[u64]) -> usize {
     let mut end = at;

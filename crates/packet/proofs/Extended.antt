@@ -60,13 +60,12 @@ Ranges x =
 
 pub ranges : (s : List ℕ) (e : Perhaps Span) → Ranges (extendedIn s e)
 ranges s absent = (λ w h. absurd (none-there w h), λ n h. absurd (none-there n h), λ y h. absurd (none-there y h))
-ranges s (there span) =
-    (
-      if-there (λ (w : LegalWindow). w .offset < 2 ^ 15) (isFlagged x 7) (windowOf (numberAt s (i + 1) 2)) (bits-lt (numberAt s (i + 1) 2) 0 15),
-      if-there (λ (n : ℕ). n < 2 ^ 22) (isFlagged x 6) (rateOf (numberAt s (ratePlace i x) 3)) (bits-lt (numberAt s (ratePlace i x) 3) 0 22),
-      if-there (λ (y : SeamlessSplice). (y .spliceType < 2 ^ 4) × (y .stamp < stampTurn)) (isFlagged x 5) (spliceOf (numberAt s (splicePlace i x) 5))
+ranges s (there span) = (
+  if-there (λ (w : LegalWindow). w .offset < 2 ^ 15) (isFlagged x 7) (windowOf (numberAt s (i + 1) 2)) (bits-lt (numberAt s (i + 1) 2) 0 15),
+  if-there (λ (n : ℕ). n < 2 ^ 22) (isFlagged x 6) (rateOf (numberAt s (ratePlace i x) 3)) (bits-lt (numberAt s (ratePlace i x) 3) 0 22),
+  if-there (λ (y : SeamlessSplice). (y .spliceType < 2 ^ 4) × (y .stamp < stampTurn)) (isFlagged x 5) (spliceOf (numberAt s (splicePlace i x) 5))
       (bits-lt (numberAt s (splicePlace i x) 5) 36 4, stamp-of-lt (numberAt s (splicePlace i x) 5)),
-    )
+)
   where
     i : ℕ
     i = span .start

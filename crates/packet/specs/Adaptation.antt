@@ -176,6 +176,6 @@ flaggedRefusals s present flags =
     ∷ (7 when isCramped s (extensionPart s flags))
     ∷ valueRefusals s flags
 
--- "7: the adaptation field doesn't fit; 8: a PCR or OPCR extension is above 299", and after it 36
+-- "7: the adaptation field doesn't fit; 8: a PCR or OPCR extension is above 299"; with ticket 6 of document 02 "36 for a marker, after 8"
 abbrev pub fieldRefusals : ℕ → List ℕ → List Row
 fieldRefusals control s = (7 when isWrongLength control (lengthOf s)) ∷ flaggedRefusals s (hasFlags control s) (flagsOf control s)

@@ -19,7 +19,7 @@ pub record Claims : Type 0 where
   pub findsPayloadStart : (p : Packet) → Determined (FindsPayloadStart p)
   -- and of a payload, both its place and its bytes
   pub givesPayload : (l : Lent) → Determined (GivesPayload l)
-  -- "Reading a packet alone: 2, 4 to 8", and 36 "after 8": a number is given exactly when it is the first that applies
+  -- "Reading a packet alone: 2, 4 to 8", and "36 .. after 8": a number is given exactly when it is the first that applies
   pub exact : (s : List ℕ) → Exact (packetRefusals s) (readPacket s)
   -- what holds of every packet that is accepted
   pub accepted : EveryAccepted

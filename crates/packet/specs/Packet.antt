@@ -70,7 +70,7 @@ contentsOf h field =
 abbrev pub contents : List ℕ → Contents
 contents s = contentsOf (headerOf s) (fieldOf (controlOf (headerOf s)) s)
 
--- "Reading a packet alone: 2, 4 to 8", and 36 "after 8": the rows that look at the header
+-- "Reading a packet alone: 2, 4 to 8": the rows that look at the header
 abbrev pub headerRefusals : List ℕ → List Row
 headerRefusals s =
     (2 when not (eqb (length s) packetBytes))
@@ -79,7 +79,7 @@ headerRefusals s =
     ∷ (6 when eqb (controlOf (headerOf s)) 0)
     ∷ []
 
--- the whole table
+-- the whole table; with ticket 6 of document 02 "36 .. after 8"
 abbrev pub packetRefusals : List ℕ → List Row
 packetRefusals s = headerRefusals s ++ fieldRefusals (controlOf (headerOf s)) s
 

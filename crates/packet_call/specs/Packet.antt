@@ -79,7 +79,7 @@ packetFrom p = record { counter = contents p .counter; start = contents p .unitS
 abbrev pub isWrongSize : List ℕ → List ℕ → List ℕ → Bool
 isWrongSize store out sets = not (eqb (length store) storeBytes) || ltb (length out) leastOutput || ltb (length sets) leastList
 
--- "Packet call: 1, 3, 2, 4, 5, 6, 7, 8"
+-- "Packet call: 1, 3, 2, 4, 5, 6, 7, 8"; with ticket 6 of document 02 "36 .. after 8"
 abbrev pub firstRefusals : State → List ℕ → List ℕ → List ℕ → List ℕ → List Row
 firstRefusals s p store out sets = (1 when not (sound s)) ∷ (3 when isWrongSize store out sets) ∷ packetRefusals p
 

@@ -54,7 +54,7 @@ isGiven h number = not (isAbsent (openingOf number h)) && not (isClosed number h
 abbrev pub closeAnswer : List AcceptedCall → ℕ → Answer (Unit {0})
 closeAnswer h number = judge refused ((16 when not (isGiven h number)) ∷ []) (given tt)
 
--- ---- packet: "3, 2, 4, 5, 6, 7, 8; then, if the PID has no area, "not wanted"; then 10, 11"; the area never contradicts the state, so 9 is never given
+-- ---- packet: "3, 2, 4, 5, 6, 7, 8", with ticket 6 of document 02 "36 .. after 8"; "then, if the PID has no area, "not wanted"; then 10, 11"; the area never contradicts the state, so 9 is never given
 abbrev pub earlyRows : List ℕ → Buffers → List Row
 earlyRows p lent = (3 when (ltb (length (lent .out)) leastOutput || ltb (length (lent .sets)) leastList)) ∷ packetRefusals p
 
