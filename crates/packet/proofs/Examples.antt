@@ -9,7 +9,9 @@ use lib.ListN.{replicate}
 use Rattle.ground.specs.Answer.{given}
 use Rattle.ground.specs.Perhaps.{there, absent}
 use Rattle.packet.specs.Steps.{bareField}
-use Rattle.packet.specs.Packet.{readPacket}
+use Rattle.packet.specs.Part.{Span}
+use Rattle.packet.specs.Extension.{Extended}
+use Rattle.packet.specs.Packet.{Contents, readPacket}
 use Rattle.packet.specs.Payload.{payloadStart}
 
 -- the first packet of document 01's listing: payload only
@@ -92,7 +94,33 @@ full-read = refl
 pub full-payload : payloadStart full ≡ 25
 full-payload = refl
 
--- an extension with all three parts, reserved bits set: a valid window, a rate, a splice of type 5 at 90,000
+-- what a packet of PID 256 says whose field has an extension and nothing else
+abbrev extending : ℕ → Span → Extended → Contents
+extending size extension x =
+    record {
+      unitStart = false;
+      priority = false;
+      pid = 256;
+      scrambling = 0;
+      control = 3;
+      counter = 0;
+      field = record {
+        size = there size;
+        discontinuity = false;
+        randomAccess = false;
+        streamPriority = false;
+        pcr = absent;
+        opcr = absent;
+        countdown = absent;
+        privateData = absent;
+        extension = there extension;
+        window = x .window;
+        rate = x .rate;
+        splice = x .splice;
+      };
+    }
+
+-- all three parts, reserved bits set: a valid window, a rate, a splice of type 5 at 90,000
 abbrev pub extended : List ℕ
 extended =
     0x47 ∷ 0x01 ∷ 0x00 ∷ 0x30 ∷ 13 ∷ 0x01
@@ -102,34 +130,17 @@ extended =
     ∷ 0x51 ∷ 0x00 ∷ 0x05 ∷ 0xBF ∷ 0x21
     ∷ replicate 170 0xFF
 
-pub extended-read : readPacket extended ≡ given (record {
-  unitStart = false;
-  priority = false;
-  pid = 256;
-  scrambling = 0;
-  control = 3;
-  counter = 0;
-  field = record {
-    size = there 13;
-    discontinuity = false;
-    randomAccess = false;
-    streamPriority = false;
-    pcr = absent;
-    opcr = absent;
-    countdown = absent;
-    privateData = absent;
-    extension = there (record { start = 7; size = 11 });
-    window = there (record { valid = true; offset = 4660 });
-    rate = there 2800862;
-    splice = there (record { spliceType = 5; stamp = 90000 });
-  };
-})
+pub extended-read : readPacket extended ≡ given (extending 13 (record { start = 7; size = 11 }) (record {
+  window = there (record { valid = true; offset = 4660 });
+  rate = there 2800862;
+  splice = there (record { spliceType = 5; stamp = 90000 });
+}))
 extended-read = refl
 
 pub extended-payload : payloadStart extended ≡ 18
 extended-payload = refl
 
--- an extension with a splice alone, of type 0 at the last stamp, and two reserved bytes behind it
+-- a splice alone, of type 0 at the last stamp, and two reserved bytes behind it
 abbrev pub spliced : List ℕ
 spliced =
     0x47 ∷ 0x01 ∷ 0x00 ∷ 0x30 ∷ 10 ∷ 0x01
@@ -138,28 +149,11 @@ spliced =
     ∷ 0x00 ∷ 0x00
     ∷ replicate 173 0xFF
 
-pub spliced-read : readPacket spliced ≡ given (record {
-  unitStart = false;
-  priority = false;
-  pid = 256;
-  scrambling = 0;
-  control = 3;
-  counter = 0;
-  field = record {
-    size = there 10;
-    discontinuity = false;
-    randomAccess = false;
-    streamPriority = false;
-    pcr = absent;
-    opcr = absent;
-    countdown = absent;
-    privateData = absent;
-    extension = there (record { start = 7; size = 8 });
-    window = absent;
-    rate = absent;
-    splice = there (record { spliceType = 0; stamp = 8589934591 });
-  };
-})
+pub spliced-read : readPacket spliced ≡ given (extending 10 (record { start = 7; size = 8 }) (record {
+  window = absent;
+  rate = absent;
+  splice = there (record { spliceType = 0; stamp = 8589934591 });
+}))
 spliced-read = refl
 
 pub spliced-payload : payloadStart spliced ≡ 15

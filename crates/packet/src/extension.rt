@@ -49,10 +49,10 @@ pub(crate) enum Reading {
 fn flagged_size(flags: u8) -> usize
     ensures { λ r. ⌜ r ≡ flaggedSize flags ⌝ }
 {
-    1
-        + 2 * ((flags / 128 % 2) as usize)
-        + 3 * ((flags / 64 % 2) as usize)
-        + 5 * ((flags / 32 % 2) as usize)
+    let window = 2 * ((flags / 128 % 2) as usize);
+    let rate = 3 * ((flags / 64 % 2) as usize);
+    let splice = 5 * ((flags / 32 % 2) as usize);
+    1 + window + rate + splice
 }
 
 // Where the rate begins, the flags byte standing at `start`.
