@@ -4,12 +4,11 @@ use mathlib.Core.Path.{_≡_, sym, _∙_, ap}
 use mathlib.Core.Bool.{true, false, not, _&&_}
 use mathlib.Core.List.{List, [], _∷_}
 use Prim.Native.Nat.{ℕ, _/_, _%_, _^_, _≤_, _<_}
-use native.Mathlib.Nat.{mod-lt, mod-eq-of-lt, div-add-mod'}
+use native.Mathlib.Nat.{mod-eq-of-lt, div-add-mod'}
 use native.Mathlib.Omega.{arith}
 use lib.Arith.{digits-div, digits-mod}
 use lib.Dec.{lit<, eqb}
 use lib.ListN.{getD}
-use lib.Pow.{pow-pos}
 use borrow.Author.Tests.{eq-eqb, eqb-true, not-false}
 use Rattle.ground.specs.Number.{Field, field, pack, bits}
 use Rattle.ground.specs.Walk.{Every}

@@ -7,7 +7,7 @@ use Prim.Native.Nat.{ℕ, _/_, _^_, _≤_, _<_}
 use native.Mathlib.Nat.{mod-lt}
 use native.Mathlib.Omega.{arith}
 use borrow.Author.Tests.{ltb-false, leb-false, leb-true, eqb-true, eqb-false, not-true, not-false}
-use lib.Dec.{leb, eqb, ltb, lit<}
+use lib.Dec.{leb, eqb, lit<}
 use lib.ListN.{length}
 use Rattle.ground.specs.Answer.{refused, given}
 use Rattle.ground.specs.Refusal.{Row, Silent, _when_}

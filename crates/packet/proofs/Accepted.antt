@@ -3,23 +3,23 @@
 use mathlib.Core.Path.{_≡_, refl, sym, _∙_, ap, subst}
 use mathlib.Core.Bool.{Bool, true, false, cond, not, _&&_}
 use mathlib.Core.List.{List}
-use Prim.Native.Nat.{ℕ, zero, suc, _+_, _-_, _/_, _^_, _≤_, _<_}
+use Prim.Native.Nat.{ℕ, _+_, _-_, _/_, _^_, _≤_, _<_}
 use native.Mathlib.Nat.{mod-lt}
 use native.Mathlib.Omega.{arith}
 use borrow.Author.Tests.{ltb-false, eqb-true, eqb-false, not-false}
-use lib.Dec.{eqb, lit<, lit≤}
+use lib.Dec.{eqb, lit<}
 use lib.ListN.{length, getD, drop, length-drop}
 use Rattle.ground.specs.Number.{numberAt, isFlagged}
 use Rattle.ground.specs.Refusal.{Silent}
 use Rattle.ground.proofs.Judged.{given-by}
-use Rattle.ground.proofs.Test.{both-true, neither}
+use Rattle.ground.proofs.Test.{both-true}
 use Rattle.clock.proofs.Field.{reference-of-lt}
 use Rattle.clock.specs.Range.{referenceTurn}
 use Rattle.clock.specs.Reference.{extensionOf, referenceOf}
-use Rattle.ground.specs.Perhaps.{Perhaps, there, absent, perhaps}
+use Rattle.ground.specs.Perhaps.{there}
 use Rattle.packet.specs.Part.{Span, partAt, partSize}
 use Rattle.packet.specs.Extension.{isCramped}
-use Rattle.packet.specs.Adaptation.{extensionPart, valueRefusals, hasField, hasFlags, flagsOf, lengthOf, isWrongLength, isWrongClock, isOver, clockAt, privatePlace, extensionPlace, fieldsEnd}
+use Rattle.packet.specs.Adaptation.{extensionPart, valueRefusals, hasField, hasFlags, flagsOf, lengthOf, isWrongClock, isOver, clockAt, privatePlace, extensionPlace, fieldsEnd}
 use Rattle.packet.specs.Packet.{Contents, headerOf, controlOf, contents, packetRefusals}
 use Rattle.packet.specs.Payload.{startAfter, startOf, payloadStart}
 use Rattle.packet.specs.Claims.Accepted.{Accepted, EveryAccepted, InRange}

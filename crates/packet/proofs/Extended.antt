@@ -1,17 +1,17 @@
 -- The parts of an extension: each is there exactly if it is flagged, fits its bits and lies inside n, and all of them together are made again of what is read.
 -- Assumes nothing.
-use mathlib.Core.Path.{_≡_, refl, sym, _∙_, ap, subst}
+use mathlib.Core.Path.{_≡_, refl, sym, _∙_, ap}
 use mathlib.Core.Bool.{Bool, true, false, cond}
-use mathlib.Core.List.{List, [], _∷_, _++_}
+use mathlib.Core.List.{List, [], _∷_}
 use mathlib.Core.Logic.{_↔_}
-use Prim.Native.Nat.{ℕ, _+_, _*_, _%_, _^_, _≤_, _<_}
+use Prim.Native.Nat.{ℕ, _+_, _*_, _^_, _≤_, _<_}
 use native.Mathlib.Nat.{zero-add, mod-eq-of-lt}
 use native.Mathlib.Omega.{arith}
 use borrow.Author.Tests.{ltb-false}
 use lib.ListN.{length, getD}
-use Rattle.ground.specs.Number.{Bytes, Field, field, pack, bits, isFlagged, bytesOf, numberAt}
+use Rattle.ground.specs.Number.{Bytes, bits, isFlagged, bytesOf, numberAt}
 use Rattle.ground.specs.Perhaps.{Perhaps, there, absent, perhaps, presence}
-use Rattle.ground.proofs.Field.{bits-lt, flag-bit, unpack, pack-unpack}
+use Rattle.ground.proofs.Field.{bits-lt, flag-bit, pack-unpack}
 use Rattle.ground.proofs.Number.{length-bytesOf, bytes-numberAt, numberAt-lt}
 use Rattle.ground.proofs.Part.{Standing, standing-both}
 use Rattle.ground.proofs.Perhaps.{none-there, if-there, presence-of, presence-exactly}
@@ -19,9 +19,9 @@ use Rattle.clock.specs.Range.{stampTurn}
 use Rattle.clock.specs.Stamp.{lacksMarker}
 use Rattle.clock.proofs.Field.{stamp-of-lt, field-of-any}
 use Rattle.packet.specs.Part.{Span}
-use Rattle.packet.specs.Extension.{LegalWindow, SeamlessSplice, Extended, flaggedSize, ratePlace, splicePlace, windowOf, rateOf, spliceOf, extendedAt, extendedIn, isCramped, isWrongSplice, isUnmarked}
+use Rattle.packet.specs.Extension.{LegalWindow, SeamlessSplice, Extended, flaggedSize, ratePlace, splicePlace, windowOf, rateOf, spliceOf, extendedAt, extendedIn, isCramped, isWrongSplice, hasWrongSplice}
 use Rattle.packet.specs.Claims.Accepted.{Flagged}
-use Rattle.packet.specs.Claims.Extension.{spelt, windowBytes, rateBytes, spliceBytes, flagsByte, toldBytes, Spelt}
+use Rattle.packet.specs.Claims.Extension.{spelt, windowBytes, rateBytes, spliceBytes, flagsByte, Spelt}
 
 -- the part that a flag tells of is there as often as the bit is set
 presence-bit : {A : Type 0} (x after : ℕ) (y : A) → presence (perhaps (isFlagged x after) y) ≡ bits x after 1
@@ -181,7 +181,7 @@ module _ (s : List ℕ) (b : Bytes s) where
         second = ap (λ (n : ℕ). ratePlace i x + n) (part-size (rateBytes reserved) 3 (rateOf (numberAt s (ratePlace i x) 3)) refl x 6)
 
 -- of an extension that may be missing
-pub extended-again : (s : List ℕ) → Bytes s → (e : Perhaps Span) → isCramped s e ≡ false → isUnmarked s e ≡ false
+pub extended-again : (s : List ℕ) → Bytes s → (e : Perhaps Span) → isCramped s e ≡ false → hasWrongSplice s e ≡ false
     → (span : Span) → e ≡ there span → span .start + span .size ≤ length s → Spelt s (span .start) (extendedIn s e)
 extended-again s b absent roomy marked span h inside = absurd (none-there span h)
 extended-again s b (there own) roomy marked span h inside =

@@ -1,4 +1,4 @@
--- The adaptation field by its three forms: none, one without a flags byte, one with it. Each decides the tests on control and length.
+-- The adaptation field by its three forms, none, one without a flags byte and one with it, each of which decides the tests on control and length; and what a right length says of where the field ends.
 -- Assumes nothing.
 use mathlib.Core.Path.{_≡_, refl, ap}
 use mathlib.Core.Bool.{false, not}

@@ -12,7 +12,7 @@ use Rattle.ground.specs.Refusal.{Row, _when_}
 use Rattle.ground.specs.Perhaps.{Perhaps}
 use Rattle.ground.specs.Number.{isFlagged}
 use Rattle.packet.specs.Part.{partAt, partSize}
-use Rattle.packet.specs.Extension.{Extended, flaggedSize, isCramped, extendedIn, isUnmarked}
+use Rattle.packet.specs.Extension.{Extended, flaggedSize, isCramped, extendedIn, hasWrongSplice}
 use Rattle.packet.specs.Adaptation.{AdaptationField, isWrongClock, opcrPlace, extensionPart, clockAt, flaggedField}
 use Rattle.packet.specs.Steps.{Roomy, readClock, readExtended, readFitting}
 use Rattle.ground.proofs.Judged.{joined, judge-joined}
@@ -47,7 +47,7 @@ pub fitting-read : (s : List ℕ) (size : Perhaps ℕ) (flags : ℕ) (pcr opcr :
     → joinedValues (flaggedField s size flags) pcr opcr x ≡ readFitting s size flags
 fitting-read s size flags pcr opcr x p o e =
     ap₂ (joined applied) (ap₂ (joined with) p o ∙ judge-joined with first second (clockAt s 6 (isFlagged flags 4)) (clockAt s (opcrPlace flags) (isFlagged flags 3))) e
-    ∙ judge-joined applied (first ++ second) ((36 when isUnmarked s (extensionPart s flags)) ∷ [])
+    ∙ judge-joined applied (first ++ second) ((36 when hasWrongSplice s (extensionPart s flags)) ∷ [])
     (with (clockAt s 6 (isFlagged flags 4)) (clockAt s (opcrPlace flags) (isFlagged flags 3)))
     (extendedIn s (extensionPart s flags))
   where

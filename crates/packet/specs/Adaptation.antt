@@ -10,7 +10,7 @@ use Rattle.ground.specs.Refusal.{Row, _when_}
 use Rattle.clock.specs.Reference.{extensionOf, referenceOf}
 use Rattle.ground.specs.Perhaps.{Perhaps, there, absent, perhaps}
 use Rattle.packet.specs.Part.{Span, toldPart, partAt, partSize}
-use Rattle.packet.specs.Extension.{LegalWindow, SeamlessSplice, toldWindow, toldRate, toldSplice, extendedIn, isCramped, isUnmarked}
+use Rattle.packet.specs.Extension.{LegalWindow, SeamlessSplice, toldWindow, toldRate, toldSplice, extendedIn, isCramped, hasWrongSplice}
 use Rattle.packet.specs.declared.adaptation.Length.{Length}
 use Rattle.packet.specs.declared.adaptation.Length.the-variants as lengths
 use Rattle.packet.specs.declared.adaptation.Clock.{Clock}
@@ -166,7 +166,7 @@ abbrev pub valueRefusals : List ℕ → ℕ → List Row
 valueRefusals s flags =
     (8 when isWrongClock s 6 (isFlagged flags 4))
     ∷ (8 when isWrongClock s (opcrPlace flags) (isFlagged flags 3))
-    ∷ (36 when isUnmarked s (extensionPart s flags))
+    ∷ (36 when hasWrongSplice s (extensionPart s flags))
     ∷ []
 
 -- the rows that look at the flagged fields: the fit is judged before the values

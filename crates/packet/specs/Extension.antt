@@ -97,7 +97,7 @@ abbrev pub isCramped : List ℕ → Perhaps Span → Bool
 isCramped s absent = false
 isCramped s (there part) = ltb (part .size) (flaggedSize (getD s (part .start) 0))
 
--- "36 for a marker"
-abbrev pub isUnmarked : List ℕ → Perhaps Span → Bool
-isUnmarked s absent = false
-isUnmarked s (there part) = isWrongSplice s (part .start) (getD s (part .start) 0)
+-- "36 for a marker": its splice is flagged and lacks one
+abbrev pub hasWrongSplice : List ℕ → Perhaps Span → Bool
+hasWrongSplice s absent = false
+hasWrongSplice s (there part) = isWrongSplice s (part .start) (getD s (part .start) 0)

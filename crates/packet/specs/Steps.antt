@@ -10,7 +10,7 @@ use Rattle.ground.specs.Refusal.{judge, _when_}
 use Rattle.ground.specs.Perhaps.{Perhaps, there, absent}
 use Rattle.ground.specs.Number.{isFlagged}
 use Rattle.packet.specs.Part.{Span, toldPart, partAt}
-use Rattle.packet.specs.Extension.{SeamlessSplice, Extended, toldWindow, toldRate, toldSplice, flaggedSize, extendedAt, extendedIn, isWrongSplice, isUnmarked}
+use Rattle.packet.specs.Extension.{SeamlessSplice, Extended, toldWindow, toldRate, toldSplice, flaggedSize, extendedAt, extendedIn, isWrongSplice, hasWrongSplice}
 use Rattle.packet.specs.Adaptation.{AdaptationField, toldClock, toldField, privatePlace, extensionPart, fieldsEnd, isWrongClock, clockAt, flaggedField, valueRefusals, flaggedRefusals, fieldOf, fieldRefusals}
 use Rattle.packet.specs.declared.adaptation.Fields.{Fields}
 use Rattle.packet.specs.declared.adaptation.Fields.the-variants as fields
@@ -56,7 +56,7 @@ Roomy s (there part) = part .start + flaggedSize (getD s (part .start) 0) ≤ pa
 
 -- the same extension, judged
 abbrev pub readExtended : List ℕ → Perhaps Span → Answer Extended
-readExtended s part = judge refused ((36 when isUnmarked s part) ∷ []) (given (extendedIn s part))
+readExtended s part = judge refused ((36 when hasWrongSplice s part) ∷ []) (given (extendedIn s part))
 
 -- the parts that are flagged, and where the flagged fields end
 pub record Parted (s : List ℕ) (flags : ℕ) (parts : Parts) : Type 0 where

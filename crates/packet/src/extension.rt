@@ -24,7 +24,7 @@ pub enum Rate {
     Absent,
 }
 
-// The seamless splice: its type, and the stamp of the access unit after it.
+// The seamless splice: its type, and the decoding stamp of the next access unit.
 pub enum Splice {
     There { splice_type: u8, stamp: Stamp },
     Absent,
