@@ -45,14 +45,13 @@ pub(crate) enum Reading {
     Refused(u8),
 }
 
-// How many bytes the flags byte takes with the parts that it flags.
-fn flagged_size(flags: u8) -> usize
-    ensures { λ r. ⌜ r ≡ flaggedSize flags ⌝ }
+// How many bytes the parts take that a flags byte flags.
+fn parts_size(flags: u8) -> usize
+    ensures { λ r. ⌜ 1 + r ≡ flaggedSize flags ⌝ }
 {
-    let window = 2 * ((flags / 128 % 2) as usize);
-    let rate = 3 * ((flags / 64 % 2) as usize);
-    let splice = 5 * ((flags / 32 % 2) as usize);
-    1 + window + rate + splice
+    2 * ((flags / 128 % 2) as usize)
+        + 3 * ((flags / 64 % 2) as usize)
+        + 5 * ((flags / 32 % 2) as usize)
 }
 
 // Where the rate begins, the flags byte standing at `start`.
@@ -142,7 +141,7 @@ pub(crate) fn is_cramped(bytes: &[u8], part: Part) -> bool
 {
     match part {
         Part::Absent => false,
-        Part::There { start, size } => (size as usize) < flagged_size(byte_at(bytes, start)),
+        Part::There { start, size } => (size as usize) < 1 + parts_size(byte_at(bytes, start)),
     }
 }
 
