@@ -57,6 +57,14 @@ fn the_listing_of_a_stuck_counter() {
     assert_eq!(listed(packets), lines);
 }
 
+#[test]
+fn the_listing_of_extensions() {
+    let packets = include_bytes!("../../examples/request-06.ts");
+    let lines = include_str!("../../examples/request-06.list");
+    assert_eq!(packets.len(), 1_128);
+    assert_eq!(listed(packets), lines);
+}
+
 fn generated(kind: &str, seed: u64) -> Vec<u8> {
     let mut script = Vec::new();
     generate::run(kind, seed, 400, &mut script).unwrap();
