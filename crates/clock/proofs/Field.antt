@@ -2,25 +2,20 @@
 -- Assumes nothing.
 use mathlib.Core.Path.{_≡_, sym, _∙_, ap}
 use mathlib.Core.Bool.{true, false, not, _&&_}
-use mathlib.Core.List.{List, [], _∷_}
+use mathlib.Core.List.{[], _∷_}
 use Prim.Native.Nat.{ℕ, _/_, _%_, _^_, _≤_, _<_}
 use native.Mathlib.Nat.{mod-eq-of-lt, div-add-mod'}
 use native.Mathlib.Omega.{arith}
 use lib.Arith.{digits-div, digits-mod}
 use lib.Dec.{lit<, eqb}
-use lib.ListN.{getD}
 use borrow.Author.Tests.{eq-eqb, eqb-true, not-false}
-use Rattle.ground.specs.Number.{Field, field, pack, bits}
+use Rattle.ground.specs.Number.{field, pack, bits}
 use Rattle.ground.specs.Walk.{Every}
 use Rattle.ground.proofs.Test.{both-true, neither}
-use Rattle.ground.proofs.Field.{Fitting, bits-lt, pack-lt, pack-unpack, unpack, unpack-pack}
+use Rattle.ground.proofs.Field.{Fitting, valueAt, bits-lt, pack-lt, pack-unpack, unpack, unpack-pack}
 use Rattle.clock.specs.Range.{stampTurn, referenceTurn}
 use Rattle.clock.specs.Stamp.{stampOf, stampField, stampLayout, prefixOf, lacksMarker, isUnmarked}
 use Rattle.clock.specs.Reference.{referenceOf, referenceField, referenceLayout, clockBase, reservedOf, extensionOf}
-
--- the value of a field by its index
-abbrev valueAt : ℕ → List Field → ℕ
-valueAt i fs = getD fs i (field 0 0) .value
 
 -- ---- stamps
 module _ (prefix v : ℕ) (p : prefix < 16) where

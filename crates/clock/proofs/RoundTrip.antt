@@ -21,13 +21,13 @@ use Rattle.ground.proofs.Test.{both-true}
 use Rattle.ground.proofs.Write.{length-put}
 use Rattle.clock.specs.Range.{isNoStamp, isNoReference, stampTurn, referenceTurn}
 use Rattle.clock.specs.Written.{Wrote, wrote, unwritten}
-use Rattle.clock.specs.Stamp.{readStamp, writeStamp, stampReadRefusals, stampWriteRefusals, isNoPrefix, isUnmarked, stampOf, stampField}
+use Rattle.clock.specs.Stamp.{Prefixed, readStamp, readAnyStamp, writeStamp, stampReadRefusals, anyStampRefusals, stampWriteRefusals, isNoPrefix, lacksMarker, isUnmarked, stampOf, prefixedOf, stampField}
 use Rattle.clock.specs.Reference.{readReference, writeReference, referenceReadRefusals, referenceWriteRefusals, referenceOf, referenceField, extensionOf, reservedOf}
 use Rattle.clock.specs.Claims.RoundTrip.{RoundTrips}
 use Rattle.clock.specs.declared.Written.the-variants as written
 use Rattle.clock.specs.declared.stamp.Reading.the-variants as stamp
 use Rattle.clock.specs.declared.reference.Reading.the-variants as reference
-use Rattle.clock.proofs.Field.{stamp-field-lt, stamp-field-marked, stamp-of-field, stamp-of-lt, field-of-stamp, reference-field-lt, reference-extension, reference-of-field, reference-of-lt, field-of-reference}
+use Rattle.clock.proofs.Field.{stamp-field-lt, stamp-field-marked, stamp-of-field, stamp-of-lt, marked, field-of-any, field-of-stamp, reference-field-lt, reference-extension, reference-of-field, reference-of-lt, field-of-reference}
 use Rattle.clock.proofs.Outcome.{outcomes}
 
 -- ---- a field of k bytes, the number n
@@ -70,6 +70,21 @@ stamp-read-back s prefix v passed =
     let marked = ap (λ (n : ℕ). isUnmarked n prefix) held ∙ stamp-field-marked prefix v small in
     accepted refused _ (stampReadRefusals (filled s 5 (stampField prefix v)) prefix) (passed .0, (still s 5 (stampField prefix v) long, (marked, tt)))
     ∙ ap given (ap stampOf held ∙ stamp-of-field prefix v small (leb-false stampTurn v (passed .1 .0)))
+
+-- the same behind any four bits
+pub any-stamp-returns : (s : List ℕ) (prefix v : ℕ) → prefix < 2 ^ 4 → v < stampTurn → 5 ≤ length s
+    → readAnyStamp (put s 0 (bytesOf 5 (stampField prefix v))) ≡ given (record { prefix = prefix; stamp = v })
+any-stamp-returns s prefix v small inside long =
+    let held = there s 5 (stampField prefix v) long (stamp-field-lt prefix v small) in
+    let right = marked (stampField prefix v) prefix (stamp-field-marked prefix v small) in
+    accepted refused _ (anyStampRefusals (filled s 5 (stampField prefix v))) (still s 5 (stampField prefix v) long, (ap lacksMarker held ∙ right .1, tt))
+    ∙ rw (held, right .0, stamp-of-field prefix v small inside)
+
+pub any-stamp-stays : (s : List ℕ) (p : Prefixed) → Bytes s → readAnyStamp s ≡ given p → put s 0 (bytesOf 5 (stampField (p .prefix) (p .stamp))) ≡ s
+any-stamp-stays s p b e =
+    let found = given-by (anyStampRefusals s) (prefixedOf (numberAt s 0 5)) p e in
+    let long = ltb-false (length s) 5 (found .0 .0) in
+    rw (found .1, field-of-any (numberAt s 0 5) (numberAt-lt s 0 5 (omega arith) b) (found .0 .1 .0)) (put-numberAt s 0 5 (omega arith) b)
 
 -- and the stamp of a reading that passed its table is written as the bytes were
 stamp-written-again : (s : List ℕ) (prefix : ℕ) → Bytes s → Silent (stampReadRefusals s prefix)

@@ -8,6 +8,7 @@ use native.Mathlib.Nat.{mul-assoc, mod-one, mod-lt, mod-eq-of-lt, mul-add-div-ri
 use native.Mathlib.Omega.{arith}
 use lib.Arith.{digits-div, digits-lt}
 use lib.Dec.{eqb, lit<}
+use lib.ListN.{getD}
 use lib.Pow.{pow-pos, pow-add, mod-pow-add}
 use Rattle.ground.specs.Walk.{Every, total}
 use Rattle.ground.specs.Number.{Field, field, widths, pack, bits, isFlagged}
@@ -24,6 +25,10 @@ flag-bit n after = go (bits n after 1) (bits-lt n after 1)
     go zero h = refl
     go (suc zero) h = refl
     go (suc (suc b)) h = absurd (omega arith)
+
+-- the value of a field by its index
+abbrev pub valueAt : ℕ → List Field → ℕ
+valueAt i fs = getD fs i (field 0 0) .value
 
 -- the value has no more bits than the field
 abbrev pub Fitting : Field → Type 0

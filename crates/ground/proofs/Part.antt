@@ -9,8 +9,8 @@ use native.Mathlib.Numerals.{add-one, add-two}
 use native.Mathlib.Omega.{arith}
 use borrow.Author.Tests.{ltb-true, ltb-false, le-ltb}
 use lib.Dec.{ltb}
-use lib.ListN.{length, getD, take, drop, length-append, length-drop, drop-of-length-le, List·getD-append, List·getD-eq-default}
-use lib.Seq.{slice, slice-cons, slice-empty, drop-drop, getD-append-add, getD-drop, getD-take, length-take-le, take-add, take-all, take-append-add, take-append-le, take-length, take-nil, take-take}
+use lib.ListN.{length, getD, take, drop, length-append, length-take, length-drop, drop-of-length-le, List·getD-append, List·getD-eq-default}
+use lib.Seq.{slice, slice-cons, slice-empty, drop-append-seam, drop-at, drop-drop, getD-append-add, getD-drop, getD-take, length-take-le, take-add, take-all, take-append-add, take-append-le, take-append-seam, take-at, take-length, take-nil, take-take}
 use Rattle.ground.specs.Number.{numberOf, bytesAt, numberAt}
 use Rattle.ground.specs.Write.{put}
 use Rattle.ground.proofs.Write.{put-put, put-nil, put-same}
@@ -128,6 +128,28 @@ module _ {ℓ} {A : Type ℓ} where
       ap (λ (n : ℕ). take n (drop i s)) (length-append t u)
       ∙ take-add (length t) (length u) (drop i s)
       ∙ ap₂ (λ (a b : List A). a ++ b) h (ap (λ (l : List A). take (length u) l) (drop-drop (length t) i s) ∙ g)
+
+  -- of two that stand one after the other each stands by itself
+  pub standing-split : (s : List A) (i : ℕ) (t u : List A) → Standing s i (t ++ u) → Standing s i t × Standing s (i + length t) u
+  standing-split s i t u h = (
+    sym (take-at front back (length t) long) ∙ ap (λ (l : List A). take (length t) l) whole ∙ take-append-seam t u,
+    ap (λ (l : List A). take (length u) l) (sym (drop-drop (length t) i s))
+        ∙ sym (drop-at front back (length t) long)
+        ∙ ap (λ (l : List A). drop (length t) l) whole
+        ∙ drop-append-seam t u,
+  )
+    where
+      front : List A
+      front = take (length t) (drop i s)
+
+      back : List A
+      back = take (length u) (drop (length t) (drop i s))
+
+      whole : take (length t) (drop i s) ++ take (length u) (drop (length t) (drop i s)) ≡ t ++ u
+      whole = sym (take-add (length t) (length u) (drop i s)) ∙ ap (λ (n : ℕ). take n (drop i s)) (sym (length-append t u)) ∙ h
+
+      long : length (take (length t) (drop i s)) ≡ length t
+      long = let size = simp (length-take, length-append) at (ap length h) in length-take-le (length t) (drop i s) (omega arith)
 
   -- ---- a write after a part that stands where it is written
   pub put-after : (d : List A) (at n : ℕ) (t : List A) → at + n + length t ≤ length d → put d at (take n (drop at d) ++ t) ≡ put d (at + n) t

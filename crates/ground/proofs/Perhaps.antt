@@ -3,9 +3,9 @@
 use mathlib.Core.Path.{_≡_, refl, subst}
 use mathlib.Core.Bool.{Bool, true, false, cond, false≢true}
 use mathlib.Core.Logic.{_↔_}
-use Prim.Native.Nat.{ℕ}
+use Prim.Native.Nat.{ℕ, _<_}
 use native.Mathlib.Omega.{arith}
-use Rattle.ground.specs.Perhaps.{perhaps, there, absent, presence}
+use Rattle.ground.specs.Perhaps.{Perhaps, perhaps, there, absent, presence}
 
 module _ {A : Type 0} where
   -- what is missing is not there
@@ -20,6 +20,10 @@ module _ {A : Type 0} where
   pub presence-of : (b : Bool) (x : A) → presence (perhaps b x) ≡ cond b 1 0
   presence-of true x = refl
   presence-of false x = refl
+
+  pub presence-lt : (y : Perhaps A) → presence y < 2
+  presence-lt (there x) = omega arith
+  presence-lt absent = omega arith
 
   pub presence-exactly : (b : Bool) (x : A) → (presence (perhaps b x) ≡ 1) ↔ (b ≡ true)
   presence-exactly true x = (λ e. refl, λ e. refl)

@@ -22,10 +22,10 @@ use Rattle.packet.specs.Extension.{isCramped}
 use Rattle.packet.specs.Adaptation.{extensionPart, valueRefusals, hasField, hasFlags, flagsOf, lengthOf, isWrongClock, isOver, clockAt, privatePlace, extensionPlace, fieldsEnd}
 use Rattle.packet.specs.Packet.{Contents, headerOf, controlOf, contents, packetRefusals}
 use Rattle.packet.specs.Payload.{startAfter, startOf, payloadStart}
-use Rattle.packet.specs.Claims.Accepted.{Accepted, EveryAccepted, InRange}
-use Rattle.packet.specs.Claims.Extension.{Spelt, extendedOf, NothingLost}
+use Rattle.packet.specs.Claims.Accepted.{extendedOf, Accepted, EveryAccepted, InRange}
+use Rattle.packet.specs.Claims.Extension.{Spelt, NothingLost}
 use Rattle.packet.proofs.Field.{Shape, sizeBy, shape}
-use Rattle.packet.proofs.Extended.{there-exactly, told-inside, ranges, extended-again}
+use Rattle.packet.proofs.Extended.{there-exactly, told-inside, ranged, extended-again}
 
 -- ---- clock references
 clock-small : (s : List ℕ) (i : ℕ) (flagged : Bool) → isWrongClock s i flagged ≡ false → InRange (clockAt s i flagged)
@@ -56,7 +56,7 @@ module _ (s : List ℕ) where
       (refl, omega arith)
   own-inside false e span h = let z : _≡_ {A = ℕ} 0 1 = cc in absurd (omega arith)
 
-  extension-inside : (b : Bool) → (b && isOver s (flagsIf b)) ≡ false → (span : Span) → partAt s (extensionPlace s (flagsIf b)) (isFlagged (flagsIf b) 0) ≡ there span
+  pub extension-inside : (b : Bool) → (b && isOver s (flagsIf b)) ≡ false → (span : Span) → partAt s (extensionPlace s (flagsIf b)) (isFlagged (flagsIf b) 0) ≡ there span
       → (b ≡ true) × (span .start + span .size ≤ 5 + lengthOf s)
   extension-inside true e span h =
       let fit = ltb-false (5 + lengthOf s) (fieldsEnd s (getD s 5 0)) e in
@@ -87,9 +87,7 @@ accepted s p e =
       rateThere = there-exactly s (extensionPart s flags) .1;
       spliceThere = there-exactly s (extensionPart s flags) .2;
       parts = told-inside s (extensionPart s flags) cramped;
-      window = ranges s (extensionPart s flags) .0;
-      rate = ranges s (extensionPart s flags) .1;
-      splice = ranges s (extensionPart s flags) .2;
+      ranged = ranged s (extensionPart s flags);
     })
   where
     control : ℕ

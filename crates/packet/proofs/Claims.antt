@@ -6,6 +6,7 @@ use Rattle.packet.specs.Packet.{toldPacket, toldReading, packetRefusals,
 use Rattle.packet.specs.Payload.{startAfter, payloadPart}
 use Rattle.packet.specs.Claims.{Claims}
 use Rattle.packet.proofs.Accepted.{accepted, nothing-lost}
+use Rattle.packet.proofs.ReadBack.{read-back, as-before}
 use Rattle.packet.proofs.Told.{madeReading, back-reading}
 
 pub claims : Claims
@@ -17,4 +18,6 @@ claims =
       exact = λ s. exact (packetRefusals s) (contents s);
       accepted = accepted;
       nothingLost = nothing-lost;
+      readBack = read-back;
+      asBefore = as-before;
     }

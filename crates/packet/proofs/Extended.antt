@@ -1,7 +1,7 @@
 -- The parts of an extension: each is there exactly if it is flagged, fits its bits and lies inside n, and all of them together are made again of what is read.
 -- Assumes nothing.
 use mathlib.Core.Path.{_≡_, refl, sym, _∙_, ap}
-use mathlib.Core.Bool.{Bool, true, false, cond}
+use mathlib.Core.Bool.{Bool, true, false}
 use mathlib.Core.List.{List, [], _∷_}
 use mathlib.Core.Logic.{_↔_}
 use Prim.Native.Nat.{ℕ, _+_, _*_, _^_, _≤_, _<_}
@@ -19,8 +19,8 @@ use Rattle.clock.specs.Range.{stampTurn}
 use Rattle.clock.specs.Stamp.{lacksMarker}
 use Rattle.clock.proofs.Field.{stamp-of-lt, field-of-any}
 use Rattle.packet.specs.Part.{Span}
-use Rattle.packet.specs.Extension.{LegalWindow, SeamlessSplice, Extended, flaggedSize, ratePlace, splicePlace, windowOf, rateOf, spliceOf, extendedAt, extendedIn, isCramped, isWrongSplice, hasWrongSplice}
-use Rattle.packet.specs.Claims.Accepted.{Flagged}
+use Rattle.packet.specs.Extension.{LegalWindow, SeamlessSplice, flaggedSize, ratePlace, splicePlace, windowOf, rateOf, spliceOf, extendedAt, extendedIn, isCramped, isWrongSplice, hasWrongSplice}
+use Rattle.packet.specs.Claims.Accepted.{Flagged, toldSize, Ranged}
 use Rattle.packet.specs.Claims.Extension.{spelt, windowBytes, rateBytes, spliceBytes, flagsByte, Spelt}
 
 -- the part that a flag tells of is there as often as the bit is set
@@ -52,20 +52,20 @@ there-exactly s absent = (none-flagged s 7, none-flagged s 6, none-flagged s 5)
 there-exactly s (there span) = (one-flagged s 7 span _, one-flagged s 6 span _, one-flagged s 5 span _)
 
 -- ---- what is told fits its bits, and the parts lie inside n
-abbrev Ranges : Extended → Type 0
-Ranges x =
-    ((w : LegalWindow) → x .window ≡ there w → w .offset < 2 ^ 15)
-    × ((n : ℕ) → x .rate ≡ there n → n < 2 ^ 22)
-    × ((y : SeamlessSplice) → x .splice ≡ there y → (y .spliceType < 2 ^ 4) × (y .stamp < stampTurn))
-
-pub ranges : (s : List ℕ) (e : Perhaps Span) → Ranges (extendedIn s e)
-ranges s absent = (λ w h. absurd (none-there w h), λ n h. absurd (none-there n h), λ y h. absurd (none-there y h))
-ranges s (there span) = (
-  if-there (λ (w : LegalWindow). w .offset < 2 ^ 15) (isFlagged x 7) (windowOf (numberAt s (i + 1) 2)) (bits-lt (numberAt s (i + 1) 2) 0 15),
-  if-there (λ (n : ℕ). n < 2 ^ 22) (isFlagged x 6) (rateOf (numberAt s (ratePlace i x) 3)) (bits-lt (numberAt s (ratePlace i x) 3) 0 22),
-  if-there (λ (y : SeamlessSplice). (y .spliceType < 2 ^ 4) × (y .stamp < stampTurn)) (isFlagged x 5) (spliceOf (numberAt s (splicePlace i x) 5))
-      (bits-lt (numberAt s (splicePlace i x) 5) 36 4, stamp-of-lt (numberAt s (splicePlace i x) 5)),
-)
+pub ranged : (s : List ℕ) (e : Perhaps Span) → Ranged (extendedIn s e)
+ranged s absent =
+    record {
+      window = λ w h. absurd (none-there w h);
+      rate = λ n h. absurd (none-there n h);
+      splice = λ y h. absurd (none-there y h);
+    }
+ranged s (there span) =
+    record {
+      window = if-there (λ (w : LegalWindow). w .offset < 2 ^ 15) (isFlagged x 7) (windowOf (numberAt s (i + 1) 2)) (bits-lt (numberAt s (i + 1) 2) 0 15);
+      rate = if-there (λ (n : ℕ). n < 2 ^ 22) (isFlagged x 6) (rateOf (numberAt s (ratePlace i x) 3)) (bits-lt (numberAt s (ratePlace i x) 3) 0 22);
+      splice = if-there (λ (y : SeamlessSplice). (y .spliceType < 2 ^ 4) × (y .stamp < stampTurn)) (isFlagged x 5) (spliceOf (numberAt s (splicePlace i x) 5))
+          (bits-lt (numberAt s (splicePlace i x) 5) 36 4, stamp-of-lt (numberAt s (splicePlace i x) 5));
+    }
   where
     i : ℕ
     i = span .start
@@ -73,11 +73,7 @@ ranges s (there span) = (
     x : ℕ
     x = getD s (span .start) 0
 
--- how many bytes are told
-abbrev toldSize : Extended → ℕ
-toldSize x = 1 + 2 * presence (x .window) + 3 * presence (x .rate) + 5 * presence (x .splice)
-
--- as many as the flags byte says
+-- as many bytes are told as the flags byte says
 told-size : (s : List ℕ) (i x : ℕ) → toldSize (extendedAt s i x) ≡ flaggedSize x
 told-size s i x = rw (presence-bit x 7, presence-bit x 6, presence-bit x 5)
 
@@ -103,14 +99,10 @@ flags-again s i x h =
     (ap (bytesOf 1) (pack-unpack (1 ∷ 1 ∷ 1 ∷ 5 ∷ []) x ∙ mod-eq-of-lt h))
 
 -- ---- in a list of bytes what is told stands where it is read
--- a part that may be missing takes as many bytes as its flag says
-part-size : {A : Type 0} (bytes : A → List ℕ) (k : ℕ) (y : A) → length (bytes y) ≡ k → (x after : ℕ)
-    → length (spelt bytes (perhaps (isFlagged x after) y)) ≡ k * bits x after 1
-part-size bytes k y e x after = go (isFlagged x after) ∙ ap (λ (n : ℕ). k * n) (flag-bit x after)
-  where
-    go : (flagged : Bool) → length (spelt bytes (perhaps flagged y)) ≡ k * cond flagged 1 0
-    go true = omega arith
-    go false = omega arith
+-- a part that may be missing takes its bytes where it is there
+pub spelt-size : {A : Type 0} (bytes : A → List ℕ) (k : ℕ) → ((z : A) → length (bytes z) ≡ k) → (y : Perhaps A) → length (spelt bytes y) ≡ k * presence y
+spelt-size bytes k e (there z) = let size = e z in omega arith
+spelt-size bytes k e absent = omega arith
 
 module _ (s : List ℕ) (b : Bytes s) where
   -- a number
@@ -175,10 +167,10 @@ module _ (s : List ℕ) (b : Bytes s) where
         rate = spelt (rateBytes reserved) (extendedAt s i x .rate)
 
         first : i + 1 + length (spelt windowBytes (extendedAt s i x .window)) ≡ ratePlace i x
-        first = ap (λ (n : ℕ). i + 1 + n) (part-size windowBytes 2 (windowOf (numberAt s (i + 1) 2)) refl x 7)
+        first = ap (λ (n : ℕ). i + 1 + n) (spelt-size windowBytes 2 (λ w. refl) (extendedAt s i x .window) ∙ ap (λ (n : ℕ). 2 * n) (presence-bit x 7 _))
 
         second : ratePlace i x + length (spelt (rateBytes reserved) (extendedAt s i x .rate)) ≡ splicePlace i x
-        second = ap (λ (n : ℕ). ratePlace i x + n) (part-size (rateBytes reserved) 3 (rateOf (numberAt s (ratePlace i x) 3)) refl x 6)
+        second = ap (λ (n : ℕ). ratePlace i x + n) (spelt-size (rateBytes reserved) 3 (λ n. refl) (extendedAt s i x .rate) ∙ ap (λ (n : ℕ). 3 * n) (presence-bit x 6 _))
 
 -- of an extension that may be missing
 pub extended-again : (s : List ℕ) → Bytes s → (e : Perhaps Span) → isCramped s e ≡ false → hasWrongSplice s e ≡ false

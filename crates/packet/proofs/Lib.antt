@@ -6,6 +6,7 @@ pub mod Field
 pub mod Header
 pub mod Extended
 pub mod Accepted
+pub mod ReadBack
 pub mod PayloadSize
 pub mod Stars
 pub mod Examples

@@ -9,7 +9,7 @@ use Rattle.ground.specs.Refusal.{Exact}
 use Rattle.packet.specs.Packet.{packetRefusals, readPacket}
 use Rattle.packet.specs.Promises.{ReadsPacket, FindsPayloadStart, GivesPayload}
 use Rattle.packet.specs.Claims.Accepted.{EveryAccepted}
-use Rattle.packet.specs.Claims.Extension.{NothingLost}
+use Rattle.packet.specs.Claims.Extension.{NothingLost, ReadBack, AsBefore}
 use Rattle.packet.specs.declared.Packet.{Packet}
 
 pub record Claims : Type 0 where
@@ -25,3 +25,7 @@ pub record Claims : Type 0 where
   pub accepted : EveryAccepted
   -- and of every extension: its bytes are made again of what was read
   pub nothingLost : NothingLost
+  -- what is written so is accepted, and read back
+  pub readBack : ReadBack
+  -- and without an extension nothing else has changed
+  pub asBefore : AsBefore

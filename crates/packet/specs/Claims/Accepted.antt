@@ -11,7 +11,8 @@ use Rattle.ground.specs.Number.{isFlagged}
 use Rattle.ground.specs.Perhaps.{Perhaps, there, absent, presence}
 use Rattle.clock.specs.Range.{stampTurn, referenceTurn}
 use Rattle.packet.specs.Part.{Span}
-use Rattle.packet.specs.Extension.{LegalWindow, SeamlessSplice}
+use Rattle.packet.specs.Extension.{LegalWindow, SeamlessSplice, Extended}
+use Rattle.packet.specs.Adaptation.{AdaptationField}
 use Rattle.packet.specs.Packet.{Contents, readPacket}
 use Rattle.packet.specs.Payload.{startAfter, payloadStart}
 
@@ -26,6 +27,23 @@ InRange clock = (v : ℕ) → clock ≡ there v → v < referenceTurn
 -- the extension is there, and so is the flag of its flags byte that has `after` bits after it
 abbrev pub Flagged : List ℕ → Perhaps Span → ℕ → Type 0
 Flagged s extension after = (span : Span) × ((extension ≡ there span) × (isFlagged (getD s (span .start) 0) after ≡ true))
+
+-- what the field tells of its extension
+abbrev pub extendedOf : AdaptationField → Extended
+extendedOf f = record { window = f .window; rate = f .rate; splice = f .splice }
+
+-- how many bytes are told: the flags byte, and "flagged parts"
+abbrev pub toldSize : Extended → ℕ
+toldSize x = 1 + 2 * presence (x .window) + 3 * presence (x .rate) + 5 * presence (x .splice)
+
+-- values that have room in their bits
+pub record Ranged (x : Extended) : Type 0 where
+  -- "15-bit offset"
+  pub window : (w : LegalWindow) → x .window ≡ there w → w .offset < 2 ^ 15
+  -- "piecewise rate (22 bits)"
+  pub rate : (n : ℕ) → x .rate ≡ there n → n < 2 ^ 22
+  -- "4-bit type, 33-bit stamp"
+  pub splice : (y : SeamlessSplice) → x .splice ≡ there y → (y .spliceType < 2 ^ 4) × (y .stamp < stampTurn)
 
 -- of a packet s that reads as p
 pub record Accepted (s : List ℕ) (p : Contents) : Type 0 where
@@ -56,12 +74,9 @@ pub record Accepted (s : List ℕ) (p : Contents) : Type 0 where
   pub rateThere : (presence (p .field .rate) ≡ 1) ↔ Flagged s (p .field .extension) 6
   pub spliceThere : (presence (p .field .splice) ≡ 1) ↔ Flagged s (p .field .extension) 5
   -- "n at least 1, with flagged parts inside n"
-  pub parts : (span : Span) → p .field .extension ≡ there span
-      → 1 + 2 * presence (p .field .window) + 3 * presence (p .field .rate) + 5 * presence (p .field .splice) ≤ span .size
-  -- "15-bit offset", "22 bits", "4-bit type, 33-bit stamp"
-  pub window : (w : LegalWindow) → p .field .window ≡ there w → w .offset < 2 ^ 15
-  pub rate : (n : ℕ) → p .field .rate ≡ there n → n < 2 ^ 22
-  pub splice : (x : SeamlessSplice) → p .field .splice ≡ there x → (x .spliceType < 2 ^ 4) × (x .stamp < stampTurn)
+  pub parts : (span : Span) → p .field .extension ≡ there span → toldSize (extendedOf (p .field)) ≤ span .size
+  -- what is told has room in its bits
+  pub ranged : Ranged (extendedOf (p .field))
 
 -- every packet that is accepted
 abbrev pub EveryAccepted : Type 0

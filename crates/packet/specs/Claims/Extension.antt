@@ -1,17 +1,19 @@
--- Document 02, ticket 6: the extension's bytes are made again of what was read, so nothing of a window, a rate or a splice is lost, and each stands in its place.
+-- Document 02, ticket 6: an extension and its bytes are made of each other. What was read is written again as the bytes were, what is written so is accepted and read back, and without an extension all is as document 01 says.
 use mathlib.Core.Path.{_≡_}
-use mathlib.Core.Bool.{cond}
+use mathlib.Core.Bool.{cond, _&&_}
 use mathlib.Core.List.{List, [], _∷_, _++_}
-use Prim.Native.Nat.{ℕ, _^_, _<_}
+use Prim.Native.Nat.{ℕ, _^_, _≤_, _<_}
 use lib.ListN.{length, take, drop}
-use Rattle.ground.specs.Answer.{given}
-use Rattle.ground.specs.Number.{Bytes, bytesOf, field, pack}
+use Rattle.ground.specs.Answer.{refused, given}
+use Rattle.ground.specs.Number.{Bytes, bytesOf, field, pack, isFlagged}
 use Rattle.ground.specs.Perhaps.{Perhaps, there, absent, presence}
+use Rattle.ground.specs.Refusal.{Row, judge, Silent, _when_}
 use Rattle.clock.specs.Stamp.{stampField}
 use Rattle.packet.specs.Part.{Span}
 use Rattle.packet.specs.Extension.{LegalWindow, SeamlessSplice, Extended}
-use Rattle.packet.specs.Adaptation.{AdaptationField}
-use Rattle.packet.specs.Packet.{Contents, readPacket}
+use Rattle.packet.specs.Adaptation.{isWrongLength, lengthOf, hasFlags, flagsOf, isOver, isWrongClock, opcrPlace}
+use Rattle.packet.specs.Packet.{Contents, headerOf, controlOf, contents, headerRefusals, readPacket}
+use Rattle.packet.specs.Claims.Accepted.{extendedOf, toldSize, Ranged}
 
 -- the bytes of a part that may be missing
 abbrev pub spelt : {A : Type 0} → (A → List ℕ) → Perhaps A → List ℕ
@@ -48,12 +50,33 @@ pub record Spelt (s : List ℕ) (i : ℕ) (x : Extended) : Type 0 where
   pub twoBits : ofRate < 2 ^ 2
   pub same : take (length (toldBytes ofFlags ofRate x)) (drop i s) ≡ toldBytes ofFlags ofRate x
 
--- what the field tells of its extension
-abbrev pub extendedOf : AdaptationField → Extended
-extendedOf f = record { window = f .window; rate = f .rate; splice = f .splice }
-
--- in every packet of bytes that is accepted
+-- in every packet of bytes that is accepted what was read is what stands there
 abbrev pub NothingLost : Type 0
 NothingLost =
     (s : List ℕ) (p : Contents) → Bytes s → readPacket s ≡ given p → (span : Span) → p .field .extension ≡ there span
     → Spelt s (span .start) (extendedOf (p .field))
+
+-- ---- the other way round: nobody is refused for an extension that is right
+-- document 01's own table, "2, 4 to 8"
+abbrev pub plainRefusals : List ℕ → List Row
+plainRefusals s =
+    headerRefusals s
+    ++ (7 when isWrongLength (controlOf (headerOf s)) (lengthOf s))
+    ∷ (7 when (hasFlags (controlOf (headerOf s)) s && isOver s (flagsOf (controlOf (headerOf s)) s)))
+    ∷ (8 when isWrongClock s 6 (isFlagged (flagsOf (controlOf (headerOf s)) s) 4))
+    ∷ (8 when isWrongClock s (opcrPlace (flagsOf (controlOf (headerOf s)) s)) (isFlagged (flagsOf (controlOf (headerOf s)) s) 3))
+    ∷ []
+
+-- a packet that document 01 does not refuse, and in whose extension what is told stands inside n, is accepted and tells just that
+abbrev pub ReadBack : Type 0
+ReadBack =
+    (s : List ℕ) (span : Span) (x : Extended) → Silent (plainRefusals s) → contents s .field .extension ≡ there span
+    → Ranged x → toldSize x ≤ span .size → Spelt s (span .start) x
+    → (readPacket s ≡ given (contents s)) × (extendedOf (contents s .field) ≡ x)
+
+-- a packet without an extension is answered by document 01's own table, and tells none of the three
+abbrev pub AsBefore : Type 0
+AsBefore =
+    (s : List ℕ) → contents s .field .extension ≡ absent
+    → (readPacket s ≡ judge refused (plainRefusals s) (given (contents s)))
+    × (extendedOf (contents s .field) ≡ record { window = absent; rate = absent; splice = absent })
