@@ -23,6 +23,7 @@ use Rattle.gather.proofs.WholeSections.{rule-exact}
 use Rattle.gather.proofs.Spread.{gathers-whole}
 use Rattle.gather.proofs.OneRepeat.{one-repeat}
 use Rattle.gather.proofs.AddsUp.{begun-holds}
+use Rattle.gather.proofs.AsNew.{as-new}
 use Rattle.gather.proofs.Cutting.{rule-cut}
 use Rattle.gather.proofs.Stored.{state-again}
 use Rattle.gather.proofs.Examples.{longest-is, stuck-is}
@@ -78,6 +79,7 @@ claims =
       spread = gathers-whole;
       oneRepeat = one-repeat;
       begun = begun-holds;
+      asNew = as-new;
       cuts = rule-cut;
       again = state-again;
       longest = longest-is;

@@ -14,4 +14,5 @@ pub mod Stored
 pub mod Stars
 pub mod Examples
 pub mod AddsUp
+pub mod AsNew
 pub mod Claims

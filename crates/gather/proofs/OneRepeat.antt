@@ -16,7 +16,7 @@ use Rattle.gather.proofs.RuleOnMemory.{rule-empty, rule-repeat, rule-ta
 use Rattle.gather.proofs.RuleKeeps.{rule-ind}
 
 -- ---- a payload or none
-some : (p : Packet) → hasPayload p ≡ true → length (p .payload) ≡ 0 → ⊥
+pub some : (p : Packet) → hasPayload p ≡ true → length (p .payload) ≡ 0 → ⊥
 some p h = eqb-false (length (p .payload)) 0 (not-true (eqb (length (p .payload)) 0) h)
 
 without : (s : State) (p : Packet) → hasPayload p ≡ false → rule s p ≡ unchanged s

@@ -49,7 +49,7 @@ unfolding started
 started-part held a e = rw (walk-kind a Part e)
 
 -- what packets give after an outcome
-abbrev goOn : Outcome → List Packet → Ran
+abbrev pub goOn : Outcome → List Packet → Ran
 goOn o ps =
     let r = run (o .next) ps in
     record { next = r .next; sections = o .sections ++ r .sections; givenUp = o .givenUp + r .givenUp; begun = o .begun + r .begun }

@@ -1,6 +1,7 @@
 -- What is claimed of the rule and of the public calls, and proved.
 pub mod OneRepeat
 pub mod Begun
+pub mod AsNew
 use mathlib.Core.Path.{_≡_}
 use mathlib.Core.Bool.{Bool, true, false}
 use mathlib.Core.List.{List, [], _∷_, _++_}
@@ -18,6 +19,7 @@ use Rattle.gather.specs.Memory.{counterOf, soundMarks, marksOf, stateOf,
 use Rattle.gather.specs.Run.{run, starting}
 use Rattle.gather.specs.Claims.OneRepeat.{OneRepeatHolds}
 use Rattle.gather.specs.Claims.Begun.{BegunHolds}
+use Rattle.gather.specs.Claims.AsNew.{RuleAsNew}
 use Rattle.gather.specs.Examples.{Longest, Stuck}
 use Rattle.gather.specs.Promises.{TellsSound, TellsHeld, TellsContradiction, TellsNoneLeft, Gathers}
 use Rattle.gather.specs.declared.Marks.{Marks}
@@ -97,6 +99,8 @@ pub record Claims : Type 0 where
   pub oneRepeat : OneRepeatHolds
   -- "How many sections can one packet start?"
   pub begun : BegunHolds
+  -- "After a jump, as good as new"
+  pub asNew : RuleAsNew
   -- joined sections say where each of them is
   pub cuts : (s : State) (p : Packet) → contradicting (s .held) ≡ false → cut (join (rule s p .sections)) ≡ rule s p .sections
   -- "An unfinished one is held, from its area's first byte on": what the rule remembers is read back from the marks and the store

@@ -14,4 +14,7 @@ pub mod InOrder
 pub mod Demand
 pub mod Accounts
 pub mod Choices
+pub mod TwoStates
+pub mod Apart
+pub mod Unread
 pub mod Wrong
