@@ -17,4 +17,5 @@ pub mod Choices
 pub mod TwoStates
 pub mod Apart
 pub mod Unread
+pub mod Anew
 pub mod Wrong
