@@ -37,7 +37,7 @@ find-map {ℓ ℓ′} : {A : Type ℓ} {B : Type ℓ′} (f : A → B) (p : B �
 find-map f p q same [] = refl
 find-map f p q same (x ∷ l) = ap₂ (λ (b : Bool) (n : ℕ). cond b 0 (suc n)) (same x) (find-map f p q same l)
 
-set-map {ℓ ℓ′} : {A : Type ℓ} {B : Type ℓ′} (f : A → B) (l : List A) (i : ℕ) (x : A) → set (map f l) i (f x) ≡ map f (set l i x)
+pub set-map {ℓ ℓ′} : {A : Type ℓ} {B : Type ℓ′} (f : A → B) (l : List A) (i : ℕ) (x : A) → set (map f l) i (f x) ≡ map f (set l i x)
 set-map f [] i x = refl
 set-map f (y ∷ l) zero x = refl
 set-map f (y ∷ l) (suc i) x = ap (λ (t : List _). f y ∷ t) (set-map f l i x)

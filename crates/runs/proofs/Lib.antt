@@ -18,4 +18,5 @@ pub mod TwoStates
 pub mod Apart
 pub mod Unread
 pub mod Anew
+pub mod AnewPacket
 pub mod Wrong
