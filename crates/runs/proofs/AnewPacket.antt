@@ -182,3 +182,61 @@ module _ (s : State) (store p : List ℕ) (lent : Buffers) where
       where
         same : areaOf (pidOf p) (map (forgotten (pidOf p)) (s .areas)) ≡ areaOf (pidOf p) (s .areas)
         same = area-stays (pidOf p) (pidOf p) (s .areas)
+
+    -- a jump
+    pub record Jumped (r : Said) (after : Buffers) (o o₂ : AfterPacket) : Type 0 where
+      pub said : Said
+      pub answer : told o₂ ≡ packetEvent p lent (given said) after
+      pub same : r ≡ saidOfJump (unfinishedOf (heldIn own s)) said
+      pub never : said .jump ≡ false
+      pub world : left o ≡ left o₂
+
+    pub jump-lands : length (s .areas) ≡ 8 → (r : Said) (after : Buffers) → told (packetOf s p store out sets) ≡ packetEvent p lent (given r) after → r .jump ≡ true
+        → Jumped r after (packetOf s p store out sets) (packetOf (anew (pidOf p) s) p store out sets)
+    jump-lands eight r after =
+        two-ways (λ o o₂. told o ≡ packetEvent p lent (given r) after → r .jump ≡ true → Jumped r after o o₂)
+        (λ n e j. let z : _≡_ {A = ℕ} 0 1 = cc in absurd (omega arith)) (λ e j. let same : unwanted ≡ r = cc in absurd (false≢true (ap (λ (x : Said). x .jump) same ∙ j))) takes
+      where
+        x : Outcome
+        x = outcome s own p store
+
+        y : Outcome
+        y = rule blank (packetFrom p)
+
+        held : List ℕ
+        held = stretch (heldIn own s) store (areaStart own)
+
+        takes : Handles s p store out sets → told (putBack s own x store out sets) ≡ packetEvent p lent (given r) after → r .jump ≡ true
+            → Jumped r after (putBack s own x store out sets) (putBack (anew (pidOf p) s) own y store out sets)
+        takes h e j =
+            let said : report x ≡ r = cc in
+            let buffers : record { out = put out 0 (join (x .sections)); sets = put sets 0 (setsFor own (placesOf s) (x .sections)) } ≡ after = cc in
+            let is : x ≡ jumped held y = as-new .jump .call (stateOf (area .marks) store (areaStart own)) (packetFrom p) (ap (λ (q : Said). q .jump) said ∙ j) in
+            let few = sound-says (area .marks) (area-marks s (sound-tells s fine) own (h .area)) .held in
+            let whole = h .whole in
+            let inside = h .area in
+            let many : length held ≡ heldIn own s = length-part (heldIn own s) store (areaStart own) (omega (arith, few, whole, inside, eight)) in
+            record {
+              said = report y;
+              answer = ap (packetEvent p lent (given (report y))) (sym (ap (λ (o : Outcome). record { out = put out 0 (join (o .sections)); sets = put sets 0 (setsFor own (placesOf s) (o .sections)) }) is) ∙ buffers);
+              same = sym said ∙ ap report is ∙ ap (λ (n : ℕ). saidOfJump (unfinishedOf n) (report y)) many;
+              never = as-new .jump .fresh (packetFrom p) .0;
+              world = landed (h .area) x y (ap (λ (o : Outcome). o .next) is);
+            }
+
+    -- a start
+    pub start-lands : contents p .unitStart ≡ true → (payloadOf p ≡ [] → ⊥) → (r : Said) (after : Buffers) → told (packetOf s p store out sets) ≡ packetEvent p lent (given r) after → r .wanted ≡ true → r .repeat ≡ false
+        → left (packetOf s p store out sets) ≡ left (packetOf (anew (pidOf p) s) p store out sets)
+    start-lands starts some r after =
+        two-ways (λ o o₂. told o ≡ packetEvent p lent (given r) after → r .wanted ≡ true → r .repeat ≡ false → left o ≡ left o₂)
+        (λ n e w d. let z : _≡_ {A = ℕ} 0 1 = cc in absurd (omega arith)) (λ e w d. let same : unwanted ≡ r = cc in absurd (false≢true (ap (λ (x : Said). x .wanted) same ∙ w)))
+        (λ h e w d.
+        let said : report (outcome s own p store) ≡ r = cc in
+        landed (h .area) (outcome s own p store) (rule blank (packetFrom p))
+        (as-new .start .next (stateOf (area .marks) store (areaStart own)) blank (packetFrom p)
+        (record { start = starts; payload = has (payloadOf p) some; original = ap (λ (q : Said). q .repeat) said ∙ d })
+        (record { start = starts; payload = has (payloadOf p) some; original = as-new .jump .fresh (packetFrom p) .1 })))
+      where
+        has : (payload : List ℕ) → (payload ≡ [] → ⊥) → not (eqb (length payload) 0) ≡ true
+        has [] n = absurd (n refl)
+        has (b ∷ payload) n = ap not (ne-eqb (length (b ∷ payload)) 0 (omega arith))

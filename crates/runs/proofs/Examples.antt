@@ -1,23 +1,25 @@
 -- Small runs, both sides of the demand: antt computes each.
 -- Assumes nothing.
 use mathlib.Core.Path.{_≡_, refl}
+use mathlib.Core.Bool.{Bool, true, false}
 use mathlib.Core.List.{List, [], _∷_, _++_}
 use Prim.Native.Nat.{ℕ}
 use lib.ListN.{take, replicate}
 use Rattle.ground.specs.Perhaps.{there, absent}
-use Rattle.ground.specs.Answer.{refused, given}
+use Rattle.ground.specs.Answer.{Answer, refused, given}
 use Rattle.ground.specs.Write.{put}
-use Rattle.gather.specs.Rule.{rule, walk, add, started}
+use Rattle.gather.specs.Rule.{rule, walk, add, started, begunIn}
 use Rattle.gather.specs.Kind.{classify, kindOf}
 use Rattle.open_call.specs.Open.{openOf}
 use Rattle.close_call.specs.Close.{closeOf}
-use Rattle.packet_call.specs.Packet.{packetOf}
+use Rattle.packet_call.specs.Packet.{Said, packetOf}
 use Rattle.sound.specs.Sound.{sound}
 use Rattle.state.specs.Choice.{through}
 use Rattle.state.specs.declared.Choice.the-variants.{All, One}
-use Rattle.runs.specs.Run.{Call, openCall, closeCall, packetCall, Event, openEvent, closeEvent, packetEvent, start, event, runFrom, logFrom, ours}
+use Rattle.runs.specs.Run.{Buffers, Call, openCall, closeCall, packetCall, World, Event, openEvent, closeEvent, packetEvent, start, event, runFrom, logFrom, ours}
 use Rattle.runs.specs.Answers.{placesAfter, openAnswer, closeAnswer}
 use Rattle.runs.specs.History.{OpenedFilter, AcceptedCall, opened, closed, accepted, standing, areasTaken, upToClose, handed, packets, since, remembered, completed}
+use Rattle.runs.specs.AsNew.{without}
 
 -- a number is given, closed, refused 16 and never given again
 pub closed-for-good :
@@ -38,18 +40,21 @@ after calls = accepted (logFrom ours (start (replicate 32768 0)) calls)
 abbrev Handed : OpenedFilter → List Call → List (List ℕ) → Type 0
 Handed f calls sections = (handed f (after calls) ≡ sections) × (through (f .choice) (completed (since f (after calls)) (packets (f .pid) (after calls))) ≡ sections)
 
-abbrev lend : List ℕ → Call
-lend p = packetCall p (record { out = replicate 4278 0; sets = replicate 61 0 })
+abbrev pub zeros : Buffers
+zeros = record { out = replicate 4278 0; sets = replicate 61 0 }
+
+abbrev pub lend : List ℕ → Call
+lend p = packetCall p zeros
 
 -- the first packet of document 01's listing: a section of four bytes on PID 0
 abbrev listed : List ℕ
 listed = 0x47 ∷ 0x40 ∷ 0x00 ∷ 0x10 ∷ 0x00 ∷ 0x80 ∷ 0x30 ∷ 0x01 ∷ 0xAA ∷ replicate 179 0xFF
 
 -- two packets of PID 0 that share a section of 303 bytes
-abbrev front : List ℕ
+abbrev pub front : List ℕ
 front = 0x47 ∷ 0x40 ∷ 0x00 ∷ 0x10 ∷ 0x00 ∷ 0x80 ∷ 0xB1 ∷ 0x2C ∷ replicate 180 0x2A
 
-abbrev back : List ℕ
+abbrev pub back : List ℕ
 back = 0x47 ∷ 0x00 ∷ 0x00 ∷ 0x11 ∷ replicate 120 0x2A ++ replicate 64 0xFF
 
 -- a filter is handed a section
@@ -72,6 +77,44 @@ shared-section = (refl, refl)
 pub forgotten-section : Handed (record { number = 2; pid = 0; choice = All; place = 0 }) (lend back ∷ openCall 0 All ∷ closeCall 1 ∷ lend front ∷ openCall 0 All ∷ []) []
 unfolding openOf closeOf packetOf sound put rule walk add started classify kindOf remembered completed
 forgotten-section = (refl, refl)
+
+-- ---- after a jump
+-- what a packet call says, and so many bytes of the output after it
+abbrev saidAfter : Event → Answer Said × List ℕ
+saidAfter (openEvent pid choice a) = (refused 0, [])
+saidAfter (closeEvent number a) = (refused 0, [])
+saidAfter (packetEvent p lent a out) = (a, take 4 (out .out))
+
+abbrev says : ℕ → ℕ → Bool → ℕ → ℕ → Said
+says sections bytes jump givenUp begun = record { wanted = true; sections = sections; bytes = bytes; jump = jump; repeat = false; givenUp = givenUp; begun = begun }
+
+abbrev at : List Call → World
+at calls = runFrom ours (start (replicate 32768 0)) calls
+
+-- a packet of PID 0 whose counter jumps after that of `front`: a section of three bytes
+abbrev pub jumping : List ℕ
+jumping = 0x47 ∷ 0x40 ∷ 0x00 ∷ 0x13 ∷ 0x00 ∷ 0x81 ∷ 0x30 ∷ 0x00 ∷ replicate 180 0xFF
+
+-- after `front` it gives up what is held; where `front` did not come all else is the same
+pub jump-told :
+    (saidAfter (event ours (at (lend front ∷ openCall 0 All ∷ [])) (lend jumping)) ≡ (given (says 1 3 true 1 1), 0x81 ∷ 0x30 ∷ 0x00 ∷ 0x00 ∷ []))
+    × (saidAfter (event ours (at (without 0 (lend front ∷ openCall 0 All ∷ []))) (lend jumping)) ≡ (given (says 1 3 false 0 1), 0x81 ∷ 0x30 ∷ 0x00 ∷ 0x00 ∷ []))
+unfolding openOf closeOf packetOf sound put rule walk add started begunIn classify kindOf
+jump-told = (refl, refl)
+
+-- a packet in step finishes what is held; where `front` did not come it gives nothing
+pub step-told :
+    (saidAfter (event ours (at (lend front ∷ openCall 0 All ∷ [])) (lend back)) ≡ (given (says 1 303 false 0 0), 0x80 ∷ 0xB1 ∷ 0x2C ∷ 0x2A ∷ []))
+    × (saidAfter (event ours (at (without 0 (lend front ∷ openCall 0 All ∷ []))) (lend back)) ≡ (given (says 0 0 false 0 0), 0 ∷ 0 ∷ 0 ∷ 0 ∷ []))
+unfolding openOf closeOf packetOf sound put rule walk add started begunIn classify kindOf
+step-told = (refl, refl)
+
+-- of `front` three times the third jumps, and what follows is what follows it once
+pub thrice :
+    (saidAfter (event ours (at (lend front ∷ lend front ∷ openCall 0 All ∷ [])) (lend front)) ≡ (given (says 0 0 true 1 1), 0 ∷ 0 ∷ 0 ∷ 0 ∷ []))
+    × (saidAfter (event ours (at (lend front ∷ lend front ∷ lend front ∷ openCall 0 All ∷ [])) (lend back)) ≡ (given (says 1 303 false 0 0), 0x80 ∷ 0xB1 ∷ 0x2C ∷ 0x2A ∷ []))
+unfolding openOf closeOf packetOf sound put rule walk add started begunIn classify kindOf
+thrice = (refl, refl)
 
 -- ---- one table only
 -- three filters on PID 18, of all tables, of table_id 78 and of table_id 80

@@ -19,4 +19,7 @@ pub mod Apart
 pub mod Unread
 pub mod Anew
 pub mod AnewPacket
+pub mod AsNew
+pub mod Again
+pub mod TooMuch
 pub mod Wrong
