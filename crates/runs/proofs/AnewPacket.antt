@@ -38,7 +38,7 @@ use Rattle.driver.proofs.StaysSound.{held-fits, held-inside}
 use Rattle.runs.specs.Run.{Buffers, World, Event, packetEvent}
 use Rattle.runs.specs.AsNew.{forgotten, anew, saidOfJump, SameHeld}
 use Rattle.runs.proofs.Apart.{other-area}
-use Rattle.runs.proofs.TwoStates.{packet-two}
+use Rattle.runs.proofs.TwoStates.{told, left, packet-two}
 use Rattle.runs.proofs.Anew.{set-map, of-other, of-own, forgotten-at, area-stays, long, one-forgotten, anew-clauses, anew-sound}
 
 -- a world whose area of the PID has seen nothing
@@ -58,16 +58,10 @@ module _ (s : State) (store p : List ℕ) (lent : Buffers) where
   abbrev area : Area
   area = getD (s .areas) own freeArea
 
-  abbrev told : AfterPacket → Event
-  told o = packetEvent p lent (o .answer) (record { out = o .out; sets = o .sets })
-
-  abbrev left : AfterPacket → World
-  left o = record { state = o .state; store = o .store }
-
   -- ---- of another PID
   module _ (pid : ℕ) (fine : sound s ≡ true) (other : pidOf p ≡ pid → ⊥) where
     abbrev Same : AfterPacket → AfterPacket → Type 0
-    Same o o₂ = (told o ≡ told o₂) × (forget pid (left o) ≡ left o₂)
+    Same o o₂ = (told p lent o ≡ told p lent o₂) × (forget pid (left o) ≡ left o₂)
 
     -- its area is none of the PID's
     not-own : own < length (s .areas) → hasPid pid area ≡ false
@@ -87,7 +81,7 @@ module _ (s : State) (store p : List ℕ) (lent : Buffers) where
 
     taken-same : own < length (s .areas) → Same (putBack s own (outcome s own p store) store out sets) (putBack (anew pid s) own (outcome (anew pid s) own p store) store out sets)
     taken-same b = (
-      ap (λ (o : Outcome). told (putBack s own o store out sets)) (outcome-same b),
+      ap (λ (o : Outcome). told p lent (putBack s own o store out sets)) (outcome-same b),
       put-same (outcome s own p store) b ∙ ap (λ (o : Outcome). left (putBack (anew pid s) own o store out sets)) (outcome-same b),
     )
 
@@ -186,15 +180,15 @@ module _ (s : State) (store p : List ℕ) (lent : Buffers) where
     -- a jump
     pub record Jumped (r : Said) (after : Buffers) (o o₂ : AfterPacket) : Type 0 where
       pub said : Said
-      pub answer : told o₂ ≡ packetEvent p lent (given said) after
+      pub answer : told p lent o₂ ≡ packetEvent p lent (given said) after
       pub same : r ≡ saidOfJump (unfinishedOf (heldIn own s)) said
       pub never : said .jump ≡ false
       pub world : left o ≡ left o₂
 
-    pub jump-lands : length (s .areas) ≡ 8 → (r : Said) (after : Buffers) → told (packetOf s p store out sets) ≡ packetEvent p lent (given r) after → r .jump ≡ true
+    pub jump-lands : length (s .areas) ≡ 8 → (r : Said) (after : Buffers) → told p lent (packetOf s p store out sets) ≡ packetEvent p lent (given r) after → r .jump ≡ true
         → Jumped r after (packetOf s p store out sets) (packetOf (anew (pidOf p) s) p store out sets)
     jump-lands eight r after =
-        two-ways (λ o o₂. told o ≡ packetEvent p lent (given r) after → r .jump ≡ true → Jumped r after o o₂)
+        two-ways (λ o o₂. told p lent o ≡ packetEvent p lent (given r) after → r .jump ≡ true → Jumped r after o o₂)
         (λ n e j. let z : _≡_ {A = ℕ} 0 1 = cc in absurd (omega arith)) (λ e j. let same : unwanted ≡ r = cc in absurd (false≢true (ap (λ (x : Said). x .jump) same ∙ j))) takes
       where
         x : Outcome
@@ -206,7 +200,7 @@ module _ (s : State) (store p : List ℕ) (lent : Buffers) where
         held : List ℕ
         held = stretch (heldIn own s) store (areaStart own)
 
-        takes : Handles s p store out sets → told (putBack s own x store out sets) ≡ packetEvent p lent (given r) after → r .jump ≡ true
+        takes : Handles s p store out sets → told p lent (putBack s own x store out sets) ≡ packetEvent p lent (given r) after → r .jump ≡ true
             → Jumped r after (putBack s own x store out sets) (putBack (anew (pidOf p) s) own y store out sets)
         takes h e j =
             let said : report x ≡ r = cc in
@@ -225,10 +219,10 @@ module _ (s : State) (store p : List ℕ) (lent : Buffers) where
             }
 
     -- a start
-    pub start-lands : contents p .unitStart ≡ true → (payloadOf p ≡ [] → ⊥) → (r : Said) (after : Buffers) → told (packetOf s p store out sets) ≡ packetEvent p lent (given r) after → r .wanted ≡ true → r .repeat ≡ false
+    pub start-lands : contents p .unitStart ≡ true → (payloadOf p ≡ [] → ⊥) → (r : Said) (after : Buffers) → told p lent (packetOf s p store out sets) ≡ packetEvent p lent (given r) after → r .wanted ≡ true → r .repeat ≡ false
         → left (packetOf s p store out sets) ≡ left (packetOf (anew (pidOf p) s) p store out sets)
     start-lands starts some r after =
-        two-ways (λ o o₂. told o ≡ packetEvent p lent (given r) after → r .wanted ≡ true → r .repeat ≡ false → left o ≡ left o₂)
+        two-ways (λ o o₂. told p lent o ≡ packetEvent p lent (given r) after → r .wanted ≡ true → r .repeat ≡ false → left o ≡ left o₂)
         (λ n e w d. let z : _≡_ {A = ℕ} 0 1 = cc in absurd (omega arith)) (λ e w d. let same : unwanted ≡ r = cc in absurd (false≢true (ap (λ (x : Said). x .wanted) same ∙ w)))
         (λ h e w d.
         let said : report (outcome s own p store) ≡ r = cc in

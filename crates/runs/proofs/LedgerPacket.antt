@@ -3,9 +3,8 @@
 use mathlib.Core.Path.{_≡_, refl, sym, _∙_, ap, ap₂}
 use mathlib.Core.Bool.{Bool, true, false, cond, _&&_}
 use mathlib.Core.List.{List, [], _∷_, _++_, append-nil}
-use mathlib.Core.Logic.{_⊎_, inl, inr}
 use Prim.Native.Nat.{ℕ, _+_, _≤_, _<_}
-use native.Mathlib.Decide.{ℕ-discrete, decLt}
+use native.Mathlib.Decide.{ℕ-discrete}
 use native.Mathlib.Omega.{arith}
 use borrow.Author.Tests.{eq-eqb, ne-eqb}
 use lib.Dec.{eqb}
@@ -33,12 +32,13 @@ use Rattle.state.specs.declared.Area.{Area}
 use Rattle.state.specs.declared.State.{State}
 use Rattle.sound.proofs.Pids.{only-one}
 use Rattle.sound.proofs.Clauses.{marks-sound}
-use Rattle.ground.proofs.Frame.{unseen, part-apart}
+use Rattle.ground.proofs.Frame.{unseen}
 use Rattle.driver.proofs.Cases.{Handles}
 use Rattle.state.proofs.Found.{has-pid, found-area}
 use Rattle.driver.proofs.StaysSound.{held-fits, held-inside, handles-clauses}
 use Rattle.runs.specs.Run.{Buffers, World}
 use Rattle.runs.specs.History.{OpenedFilter, AcceptedCall, packet, opens, closes, openingOf, isClosed, standing, areasTaken, packets, since, sectionsOf, picked, handedBy, handed, remembered, completed}
+use Rattle.runs.proofs.Apart.{other-area}
 use Rattle.runs.proofs.AsRun.{remembered-one, completed-one}
 use Rattle.runs.proofs.Picked.{picked-told, in-places, keep-same}
 use Rattle.runs.proofs.Ledger.{usersOf, areaAt, filterAt, codeAt, openingAt, seatAt, IsOpen, Handed, Ledger, Stands, open-handed, handed-open, after-packet, stood}
@@ -112,11 +112,7 @@ module _ (w : World) (h : List AcceptedCall) (l : Ledger w h) (p : List ℕ) (le
 
   -- the held bytes of another area are as before
   elsewhere : (i n : ℕ) → n ≤ 4095 → (i ≡ own → ⊥) → stretch n (after .store) (areaStart i) ≡ stretch n (w .store) (areaStart i)
-  elsewhere i n few other = part-apart (w .store) (areaStart own) (result .next .held) inside 0 (areaStart i) n (go (decLt i own))
-    where
-      go : Dec (i < own) → (areaStart i + n ≤ areaStart own) ⊎ (areaStart own + length (result .next .held) ≤ areaStart i)
-      go (yes b) = inl (omega arith)
-      go (no m) = let f = fits in inr (omega arith)
+  elsewhere i n few other = other-area (w .store) own (result .next .held) fits inside i n few other
 
   remembers : (i : ℕ) → i < length (set (s .areas) own area) → isUsed (getD (set (s .areas) own area) i freeArea) ≡ true
       → stateOf (getD (set (s .areas) own area) i freeArea .marks) (after .store) (areaStart i) ≡ remembered (packets (getD (set (s .areas) own area) i freeArea .pid .0) (packet p lent said written ∷ h))

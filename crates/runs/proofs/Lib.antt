@@ -2,6 +2,7 @@ pub mod Examples
 pub mod AsRun
 pub mod Ledger
 pub mod Picked
+pub mod Apart
 pub mod LedgerOpen
 pub mod LedgerClose
 pub mod LedgerPacket
@@ -15,7 +16,6 @@ pub mod Demand
 pub mod Accounts
 pub mod Choices
 pub mod TwoStates
-pub mod Apart
 pub mod Unread
 pub mod Anew
 pub mod AnewPacket

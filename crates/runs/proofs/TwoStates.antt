@@ -19,6 +19,14 @@ use Rattle.state.specs.declared.State.{State}
 use Rattle.sound.specs.Sound.{sound}
 use Rattle.packet_call.specs.Packet.{Said, unwanted, AfterPacket, asGiven, pidOf, heldIn, firstRefusals, lastRefusals, outcome, putBack, afterTests, afterReading, packetOf}
 use Rattle.driver.proofs.Cases.{Handles, packet-ind}
+use Rattle.runs.specs.Run.{Buffers, World, Event, packetEvent}
+
+-- what a packet call tells, and the world that it leaves
+abbrev pub told : List ℕ → Buffers → AfterPacket → Event
+told p lent o = packetEvent p lent (o .answer) (record { out = o .out; sets = o .sets })
+
+abbrev pub left : AfterPacket → World
+left o = record { state = o .state; store = o .store }
 
 -- the packet was taken
 abbrev isTaken : Answer Said → Bool

@@ -38,7 +38,7 @@ use Rattle.driver.proofs.StaysSound.{held-fits, held-inside}
 use Rattle.runs.specs.Run.{Buffers, Call, openCall, closeCall, packetCall, World, Event, openEvent, closeEvent, packetEvent, after, event, runFrom, logFrom, heardFrom, ours}
 use Rattle.runs.specs.AsNew.{Onward, SameHeld, Unread}
 use Rattle.runs.proofs.Apart.{other-area}
-use Rattle.runs.proofs.TwoStates.{packet-two}
+use Rattle.runs.proofs.TwoStates.{told, left, packet-two}
 
 -- every call leaves as many areas as there were
 pub areas-stay : (w : World) (c : Call) → length (after ours w c .state .areas) ≡ length (w .state .areas)
@@ -48,27 +48,15 @@ areas-stay w (packetCall p lent) =
     packet-ind (w .state) p (w .store) (lent .out) (lent .sets) (λ o. length (o .state .areas) ≡ length (w .state .areas)) (λ n a b. refl) (λ b. refl) (λ h. length-set (w .state .areas) _ _)
 
 -- ---- one state and two stores
-module _ (s : State) (store store₂ : List ℕ) (eight : length (s .areas) ≡ 8) (same : SameHeld (record { state = s; store = store }) (record { state = s; store = store₂ })) (p : List ℕ) (lent : Buffers) where
-  abbrev out : List ℕ
-  out = lent .out
-
-  abbrev sets : List ℕ
-  sets = lent .sets
-
+module _ (s : State) (store store₂ : List ℕ) (eight : length (s .areas) ≡ 8) (same : SameHeld (record { state = s; store = store }) (record { state = s; store = store₂ })) (p out sets : List ℕ) where
   abbrev own : ℕ
   own = areaOf (pidOf p) (s .areas)
 
   abbrev area : Area
   area = getD (s .areas) own freeArea
 
-  abbrev left : AfterPacket → World
-  left o = record { state = o .state; store = o .store }
-
-  abbrev told : AfterPacket → Event
-  told o = packetEvent p lent (o .answer) (record { out = o .out; sets = o .sets })
-
   abbrev Same : AfterPacket → AfterPacket → Type 0
-  Same o o₂ = (told o ≡ told o₂) × SameHeld (left o) (left o₂)
+  Same o o₂ = (told p (record { out = out; sets = sets }) o ≡ told p (record { out = out; sets = sets }) o₂) × SameHeld (left o) (left o₂)
 
   given-same : (a : Answer Said) → Same (asGiven s store out sets a) (asGiven s store₂ out sets a)
   given-same a = (refl, same)
@@ -126,7 +114,7 @@ module _ (s : State) (store store₂ : List ℕ) (eight : length (s .areas) ≡ 
 
     taken-same : Same (putBack s own (outcome s own p store) store out sets) (putBack s own (outcome s own p store₂) store₂ out sets)
     taken-same = (
-      ap (λ (x : Outcome). told (putBack s own x store₂ out sets)) is,
+      ap (λ (x : Outcome). told p (record { out = out; sets = sets }) (putBack s own x store₂ out sets)) is,
       subst (λ (x : Outcome). SameHeld (left (putBack s own o store out sets)) (left (putBack s own x store₂ out sets))) is taken-held,
     )
 
@@ -192,7 +180,7 @@ one-state : (w : World) (store : List ℕ) → length (w .state .areas) ≡ 8 �
     → (c : Call) → (event ours w c ≡ event ours (record { state = w .state; store = store }) c) × SameHeld (after ours w c) (after ours (record { state = w .state; store = store }) c)
 one-state w store eight same (openCall pid choice) = (refl, open-held (w .state) (w .store) store same pid choice)
 one-state w store eight same (closeCall number) = (refl, close-held (w .state) (w .store) store same number)
-one-state w store eight same (packetCall p lent) = packet-same (w .state) (w .store) store eight same p lent
+one-state w store eight same (packetCall p lent) = packet-same (w .state) (w .store) store eight same p (lent .out) (lent .sets)
 
 pub unread : Unread ours
 unread w v eight same c =
