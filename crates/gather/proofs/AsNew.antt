@@ -8,7 +8,7 @@ use native.Mathlib.Nat.{zero-add, add-assoc}
 use native.Mathlib.Omega.{arith}
 use lib.ListN.{length}
 use borrow.Author.Tests.{eq-eqb, ne-eqb}
-use Rattle.gather.specs.Rule.{Last, seen, State, blank, Packet, Yield, Outcome, unfinished, walk, add, front, back, started, yield, begunBy, repeats, jumps, kept, lost, taken, rule}
+use Rattle.gather.specs.Rule.{Last, seen, State, blank, Packet, Yield, Outcome, unfinished, walk, front, back, started, yield, begunBy, repeats, jumps, kept, lost, taken, rule}
 use Rattle.gather.specs.Run.{Ran, run, outcomes}
 use Rattle.gather.specs.Claims.AsNew.{jumped, jumpedFirst, JumpForgets, Starts, finishedFirst, StartForgets, counterAfter, Comes, LossShows, RuleAsNew}
 use Rattle.gather.proofs.RuleOnMemory.{rule-taken}

@@ -12,7 +12,6 @@ use Rattle.gather.specs.Rule.{State, Packet, Outcome, blank, rule}
 use Rattle.gather.proofs.AsNew.{as-new}
 use Rattle.section.specs.Section.{tableOf}
 use Rattle.state.specs.Choice.{lets, through}
-use Rattle.state.specs.declared.Choice.{Choice}
 use Rattle.runs.specs.Run.{ours}
 use Rattle.runs.specs.History.{remembered, completed}
 use Rattle.runs.specs.Demand.{history}

@@ -7,27 +7,26 @@ use mathlib.Core.Logic.{_⊎_, inl, inr}
 use Prim.Native.Nat.{ℕ, zero, suc, _+_, _-_, _≤_, _<_}
 use native.Mathlib.Decide.{ℕ-discrete, decLt}
 use native.Mathlib.Omega.{arith}
-use borrow.Author.Tests.{eqb-true, eqb-false, eq-eqb, ne-eqb, not-true, ltb-false}
+use borrow.Author.Tests.{eqb-true, eqb-false, eq-eqb, ne-eqb, not-true}
 use lib.Dec.{eqb, leb, ltb}
 use lib.ListN.{length, getD, set, length-set, length-map, List·getD-map, List·getD-eq-default}
-use lib.Seq.{getD-set-same, getD-set-other, set-getD, ext-getD}
+use lib.Seq.{getD-set-same, getD-set-other, ext-getD}
 use Rattle.ground.specs.Answer.{refused, given}
 use Rattle.ground.specs.Refusal.{Row, judge, _when_}
 use Rattle.ground.specs.Walk.{find}
 use Rattle.ground.proofs.Judged.{judge-both}
 use Rattle.ground.proofs.Test.{both-true, true-both}
-use Rattle.ground.proofs.Walk.{all-at, all-of, apart-at, apart-of, find-passes, find-first}
-use Rattle.gather.specs.Memory.{noMarks, heldOf}
-use Rattle.state.specs.State.{isUsed, isOpen, hasPid, areaOf, freeAreaOf, areaStart, freePlaceOf, placeOf, freeArea, freeFilter}
+use Rattle.ground.proofs.Walk.{all-at, all-of, apart-at, apart-of, find-passes}
+use Rattle.gather.specs.Memory.{noMarks}
+use Rattle.state.specs.State.{isUsed, isOpen, hasPid, areaOf, freeAreaOf, freePlaceOf, placeOf, freeArea, freeFilter}
 use Rattle.state.specs.Choice.{soundChoice, codeOf}
 use Rattle.state.specs.declared.Area.{Area}
 use Rattle.state.specs.declared.Choice.{Choice}
 use Rattle.state.specs.declared.State.{State}
-use Rattle.state.proofs.Found.{found-area, has-pid}
 use Rattle.sound.specs.Sound.{sound, soundArea, soundFilter, samePid}
 use Rattle.sound.proofs.Pass.{counted-all}
 use Rattle.sound.proofs.Clauses.{Clauses, sound-tells, sound-says, used-sound, free-marks, users-are}
-use Rattle.open_call.specs.Open.{AfterOpen, hasArea, areaFor, openRefusals, withUser, withFilter, opened, openOf}
+use Rattle.open_call.specs.Open.{AfterOpen, areaFor, openRefusals, withUser, opened, openOf}
 use Rattle.open_call.proofs.OpenStaysSound as opening
 use Rattle.close_call.specs.Close.{AfterClose, closeRefusals, withoutUser, areaAt, withoutFilter, closeOf}
 use Rattle.runs.specs.AsNew.{forgotten, anew}

@@ -1,14 +1,14 @@
 -- A packet where the PID's area has seen nothing: one of another PID does the same, one of the PID changes what its area has seen and nothing else, and one that jumps or starts a section leaves the same world.
 -- Assumes nothing.
 use mathlib.Core.Path.{_≡_, refl, sym, _∙_, ap, ap₂, subst}
-use mathlib.Core.Bool.{Bool, true, false, cond, not, false≢true}
+use mathlib.Core.Bool.{Bool, true, false, not, false≢true}
 use mathlib.Core.List.{List, [], _∷_, map}
 use Prim.Native.Nat.{ℕ, _+_, _≤_, _<_}
 use native.Mathlib.Decide.{ℕ-discrete}
 use native.Mathlib.Omega.{arith}
-use borrow.Author.Tests.{eqb-false, ne-eqb, not-true}
+use borrow.Author.Tests.{ne-eqb}
 use lib.Dec.{eqb}
-use lib.ListN.{length, getD, set, length-set}
+use lib.ListN.{length, getD, set}
 use lib.Seq.{set-getD}
 use Rattle.ground.specs.Answer.{refused, given}
 use Rattle.ground.specs.Write.{put}
@@ -17,11 +17,10 @@ use Rattle.ground.proofs.Write.{length-put}
 use Rattle.packet.specs.Packet.{contents}
 use Rattle.packet.specs.Payload.{payloadOf}
 use Rattle.gather.specs.Rule as gathering
-use Rattle.gather.specs.Rule.{Outcome, blank, unfinished, unfinishedOf, rule}
-use Rattle.gather.specs.Kind.{join, contradicting}
+use Rattle.gather.specs.Rule.{Outcome, blank, unfinishedOf, rule}
+use Rattle.gather.specs.Kind.{join}
 use Rattle.gather.specs.Memory.{noMarks, heldOf, marksOf, stateOf, stretch, contradictsOf}
-use Rattle.gather.specs.declared.Marks.{Marks}
-use Rattle.gather.specs.Claims.AsNew.{jumped, Starts}
+use Rattle.gather.specs.Claims.AsNew.{jumped}
 use Rattle.gather.proofs.AsNew.{as-new}
 use Rattle.gather.proofs.RuleOnMemory.{sound-says}
 use Rattle.state.specs.State.{isUsed, hasPid, areaOf, areaStart, freeArea}
@@ -30,12 +29,12 @@ use Rattle.state.specs.declared.Area.{Area}
 use Rattle.state.specs.declared.State.{State}
 use Rattle.state.proofs.Found.{found-area, has-pid}
 use Rattle.sound.specs.Sound.{sound}
-use Rattle.sound.proofs.Clauses.{Clauses, sound-tells, area-marks}
+use Rattle.sound.proofs.Clauses.{sound-tells, area-marks}
 use Rattle.open_call.proofs.OpenStaysSound as opening
 use Rattle.packet_call.specs.Packet.{Said, unwanted, AfterPacket, asGiven, pidOf, heldIn, packetFrom, outcome, withMarks, report, setsFor, putBack, packetOf}
 use Rattle.driver.proofs.Cases.{Handles, packet-ind}
 use Rattle.driver.proofs.StaysSound.{held-fits, held-inside}
-use Rattle.runs.specs.Run.{Buffers, World, Event, packetEvent}
+use Rattle.runs.specs.Run.{Buffers, World, packetEvent}
 use Rattle.runs.specs.AsNew.{forgotten, anew, saidOfJump, SameHeld}
 use Rattle.runs.proofs.Apart.{other-area}
 use Rattle.runs.proofs.TwoStates.{told, left, packet-two}

@@ -1,6 +1,6 @@
 -- After a jump, as good as new: beside every run goes the one without the PID's packets, whose area has seen nothing, and a packet that jumps or starts a section joins the two.
 -- Assumes nothing.
-use mathlib.Core.Path.{_≡_, refl, sym, _∙_, ap, ap₂, subst}
+use mathlib.Core.Path.{_≡_, refl, sym, _∙_, ap, subst}
 use mathlib.Core.Bool.{Bool, true, false, cond, false≢true}
 use mathlib.Core.List.{List, [], _∷_, _++_, reverse, reverse-cons, append-nil}
 use Prim.Native.Nat.{ℕ, _<_}

@@ -11,18 +11,17 @@ use borrow.Author.Tests.{eqb-false, ne-eqb, not-true}
 use lib.Dec.{eqb}
 use lib.ListN.{length, getD, set, length-set}
 use lib.Seq.{getD-set-same, getD-set-other}
-use Rattle.ground.specs.Answer.{Answer, given}
+use Rattle.ground.specs.Answer.{Answer}
 use Rattle.ground.specs.Write.{put}
 use Rattle.ground.proofs.Walk.{all-at, find-passes}
 use Rattle.ground.proofs.Write.{length-put}
 use Rattle.gather.specs.Rule as gathering
 use Rattle.gather.specs.Rule.{Outcome, rule}
-use Rattle.gather.specs.Kind.{join, contradicting}
-use Rattle.gather.specs.Memory.{heldOf, lastOf, marksOf, stretch}
+use Rattle.gather.specs.Kind.{contradicting}
+use Rattle.gather.specs.Memory.{heldOf, lastOf, stretch}
 use Rattle.gather.proofs.RuleOnMemory.{sound-says}
 use Rattle.gather.proofs.Stored.{state-again}
 use Rattle.state.specs.State.{isUsed, areaOf, areaStart, freeAreaOf, freeArea, placeOf}
-use Rattle.state.specs.Choice.{placesOf}
 use Rattle.state.specs.declared.Area.{Area}
 use Rattle.state.specs.declared.Choice.{Choice}
 use Rattle.state.specs.declared.State.{State}
@@ -32,10 +31,10 @@ use Rattle.sound.proofs.Clauses.{sound-tells, area-marks, free-marks}
 use Rattle.open_call.specs.Open.{areaFor, withUser, openOf}
 use Rattle.open_call.proofs.OpenStaysSound as opening
 use Rattle.close_call.specs.Close.{withoutUser, areaAt, closeOf}
-use Rattle.packet_call.specs.Packet.{Said, AfterPacket, asGiven, pidOf, heldIn, packetFrom, outcome, withMarks, report, setsFor, putBack, packetOf}
+use Rattle.packet_call.specs.Packet.{Said, AfterPacket, asGiven, pidOf, heldIn, packetFrom, outcome, withMarks, putBack, packetOf}
 use Rattle.driver.proofs.Cases.{Opens, Handles, open-ind, close-ind, packet-ind}
 use Rattle.driver.proofs.StaysSound.{held-fits, held-inside}
-use Rattle.runs.specs.Run.{Buffers, Call, openCall, closeCall, packetCall, World, Event, openEvent, closeEvent, packetEvent, after, event, runFrom, logFrom, heardFrom, ours}
+use Rattle.runs.specs.Run.{Call, openCall, closeCall, packetCall, World, Event, after, event, runFrom, logFrom, heardFrom, ours}
 use Rattle.runs.specs.AsNew.{Onward, SameHeld, Unread}
 use Rattle.runs.proofs.Apart.{other-area}
 use Rattle.runs.proofs.TwoStates.{told, left, packet-two}
