@@ -8,9 +8,11 @@ use native.Mathlib.Nat.{zero-add, add-assoc}
 use native.Mathlib.Omega.{arith}
 use lib.ListN.{length}
 use borrow.Author.Tests.{eq-eqb, ne-eqb}
-use Rattle.gather.specs.Rule.{Last, seen, State, blank, Packet, Yield, Outcome, unfinished, walk, front, back, started, yield, begunBy, repeats, jumps, kept, lost, taken, rule}
-use Rattle.gather.specs.Run.{Ran, run, outcomes}
-use Rattle.gather.specs.Claims.AsNew.{jumped, jumpedFirst, JumpForgets, Starts, finishedFirst, StartForgets, counterAfter, Comes, LossShows, RuleAsNew}
+use Rattle.ground.specs.Walk.{Every}
+use Rattle.gather.specs.Kind.{kindOf, classify}
+use Rattle.gather.specs.Rule.{Last, seen, State, blank, Packet, Yield, Outcome, unfinished, walk, add, front, back, started, yield, begunIn, begunBy, isRepeated, repeats, jumps, kept, lost, taken, rule}
+use Rattle.gather.specs.Run.{Ran, run, outcomes, starts, continues}
+use Rattle.gather.specs.Claims.AsNew.{jumped, Forgets, markKept, heldKept, payloadDropped, jumpedFirst, JumpForgets, Starts, finishedFirst, StartForgets, counterAfter, Comes, LossShows, RuleAsNew}
 use Rattle.gather.proofs.RuleOnMemory.{rule-taken}
 use Rattle.gather.proofs.RuleKeeps.{rule-ind, add-single}
 use Rattle.gather.proofs.OneRepeat.{some}
@@ -52,10 +54,28 @@ module _ (s : State) (p : Packet) where
           let r = run blank (p ∷ ps) in
           record { next = r .next; sections = r .sections; givenUp = n; begun = r .begun }
 
+-- wrong rules: an area that holds one byte jumps to counter 5, by a packet that starts a section of three bytes or goes on
+wrong-rules : Every (λ (gather : State → Packet → Outcome). Forgets gather → ⊥) (markKept ∷ heldKept ∷ payloadDropped ∷ [])
+unfolding kindOf classify walk add started begunIn rule
+wrong-rules = (
+  λ claim. false≢true (sym (ap (λ (o : Outcome). isRepeated (o .next .last)) (claim one (starts 5 whole) refl))),
+  (
+    λ claim. let held : _≡_ {A = ℕ} 2 0 = ap (λ (o : Outcome). length (o .next .held)) (claim one (continues 5 (0x30 ∷ [])) refl) in omega arith,
+    (λ claim. let none : _≡_ {A = ℕ} 0 1 = ap (λ (o : Outcome). length (o .sections)) (claim one (starts 5 whole) refl) in omega arith, tt),
+  ),
+)
+  where
+    one : State
+    one = record { held = 0x80 ∷ []; last = seen 0 false }
+
+    whole : List ℕ
+    whole = 0x00 ∷ 0x81 ∷ 0x30 ∷ 0x00 ∷ []
+
 jumps-forget : JumpForgets
 jumps-forget =
     record {
       call = jump-forgets;
+      excluded = wrong-rules;
       fresh = blank-tells;
       later = λ s p j ps. ap (λ (o : Outcome). outcomes rule (o .next) ps) (jump-forgets s p j);
       altogether = altogether;

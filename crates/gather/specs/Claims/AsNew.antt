@@ -1,10 +1,11 @@
 -- Request 14 of document 02, "After a jump, as good as new": what is claimed of the rule. A jump forgets all that the area had seen, and so does a packet that starts a section; and which losses show.
 use mathlib.Core.Path.{_≡_}
-use mathlib.Core.Bool.{Bool, true, false}
-use mathlib.Core.List.{List, _∷_, _++_}
+use mathlib.Core.Bool.{Bool, true, false, cond}
+use mathlib.Core.List.{List, [], _∷_, _++_}
 use Prim.Native.Nat.{ℕ, _+_, _%_, _≤_}
 use lib.ListN.{length}
-use Rattle.gather.specs.Rule.{seen, State, blank, Packet, Outcome, unfinished, walk, add, front, back, kept, rule}
+use Rattle.ground.specs.Walk.{Every}
+use Rattle.gather.specs.Rule.{seen, State, blank, Packet, Outcome, nothing, unfinished, walk, add, front, back, yield, kept, taken, rule}
 use Rattle.gather.specs.Run.{Ran, run, outcomes}
 use Rattle.gather.specs.Claims.OneRepeat.{hasPayload, Brings}
 
@@ -18,9 +19,33 @@ jumped held o =
 abbrev pub jumpedFirst : List ℕ → Ran → Ran
 jumpedFirst held r = record { next = r .next; sections = r .sections; givenUp = unfinished held + r .givenUp; begun = r .begun }
 
+-- of any rule, so that wrong ones can be held to it
+abbrev pub Forgets : (State → Packet → Outcome) → Type 0
+Forgets gather = (s : State) (p : Packet) → gather s p .jump ≡ true → gather s p ≡ jumped (s .held) (gather blank p)
+
+-- a rule that does something else where ours jumps
+abbrev pub atJumps : (State → Packet → Outcome) → State → Packet → Outcome
+atJumps other s p = cond (rule s p .jump) (other s p) (rule s p)
+
+-- the mark of a repeat is kept, so that the next packet with this counter jumps again
+abbrev pub markKept : State → Packet → Outcome
+markKept =
+    atJumps (λ s p.
+    let o = rule s p in
+    record { next = record { held = o .next .held; last = seen (p .counter) true }; sections = o .sections; jump = true; repeat = false; givenUp = o .givenUp; begun = o .begun })
+
+-- the held bytes are kept, and the payload is added to them
+abbrev pub heldKept : State → Packet → Outcome
+heldKept = atJumps (λ s p. taken true p 0 (yield (s .held) (p .start) (p .payload)))
+
+-- the payload of the packet that jumps is dropped
+abbrev pub payloadDropped : State → Packet → Outcome
+payloadDropped = atJumps (λ s p. taken true p (unfinished (s .held)) nothing)
+
 pub record JumpForgets : Type 0 where
   -- in that call
-  pub call : (s : State) (p : Packet) → rule s p .jump ≡ true → rule s p ≡ jumped (s .held) (rule blank p)
+  pub call : Forgets rule
+  pub excluded : Every (λ (gather : State → Packet → Outcome). Forgets gather → ⊥) (markKept ∷ heldKept ∷ payloadDropped ∷ [])
   -- "the first counter of a fresh area is never a jump", nor is it a repeat
   pub fresh : (p : Packet) → (rule blank p .jump ≡ false) × (rule blank p .repeat ≡ false)
   -- "and after it": nothing differs any more
