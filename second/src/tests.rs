@@ -10,6 +10,7 @@ mod filters;
 mod gathering;
 mod generators;
 mod lines;
+mod losses;
 mod recordings;
 mod repeats;
 mod sound;
