@@ -24,6 +24,7 @@ use Rattle.text.proofs.Claims as texts
 use Rattle.lines.proofs.Claims as listed
 use Rattle.pieces.proofs.Claims as inputs
 use Rattle.runs.specs.Promises.{DemandThreeHolds}
+use Rattle.runs.specs.AsNew.{AsNewHolds}
 use Rattle.stars.specs.Stars.{EveryCase}
 use Rattle.claims.specs.Claims.{EveryClaim}
 
@@ -53,5 +54,6 @@ every-claim =
       lines = listed.claims;
       pieces = inputs.claims;
       demandThree = stated DemandThreeHolds;
+      asNew = stated AsNewHolds;
       everyCase = stated EveryCase;
     }

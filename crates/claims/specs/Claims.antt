@@ -23,6 +23,7 @@ use Rattle.text.specs.Claims as texts
 use Rattle.lines.specs.Claims as listed
 use Rattle.pieces.specs.Claims as inputs
 use Rattle.runs.specs.Promises.{DemandThreeHolds}
+use Rattle.runs.specs.AsNew.{AsNewHolds}
 use Rattle.stars.specs.Stars.{EveryCase}
 
 pub record EveryClaim : Type 0 where
@@ -70,4 +71,5 @@ pub record EveryClaim : Type 0 where
   pub pieces : inputs.Claims
   -- the functions that state something have one answer too
   pub demandThree : Determined (Stated DemandThreeHolds)
+  pub asNew : Determined (Stated AsNewHolds)
   pub everyCase : Determined (Stated EveryCase)
