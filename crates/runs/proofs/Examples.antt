@@ -116,6 +116,13 @@ pub thrice :
 unfolding openOf closeOf packetOf sound put rule walk add started begunIn classify kindOf
 thrice = (refl, refl)
 
+-- what is handed from the jump on is the same to a filter that stays and to one that is closed before it and opened again
+pub handed-again :
+    Handed (record { number = 1; pid = 0; choice = All; place = 0 }) (lend jumping ∷ lend front ∷ openCall 0 All ∷ []) ((0x81 ∷ 0x30 ∷ 0x00 ∷ []) ∷ [])
+    × Handed (record { number = 2; pid = 0; choice = All; place = 0 }) (lend jumping ∷ openCall 0 All ∷ closeCall 1 ∷ lend front ∷ openCall 0 All ∷ []) ((0x81 ∷ 0x30 ∷ 0x00 ∷ []) ∷ [])
+unfolding openOf closeOf packetOf sound put rule walk add started classify kindOf remembered completed
+handed-again = ((refl, refl), (refl, refl))
+
 -- ---- one table only
 -- three filters on PID 18, of all tables, of table_id 78 and of table_id 80
 abbrev guides : List Call

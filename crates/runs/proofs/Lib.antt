@@ -22,4 +22,5 @@ pub mod AnewPacket
 pub mod AsNew
 pub mod Again
 pub mod TooMuch
+pub mod WrongAtJumps
 pub mod Wrong

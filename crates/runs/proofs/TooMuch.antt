@@ -17,18 +17,18 @@ use Rattle.runs.specs.Run.{Call, openCall, Event, openEvent, closeEvent,
 use Rattle.runs.specs.AsNew.{AsNewAfter}
 use Rattle.runs.proofs.Examples.{zeros, lend, front, back, jumping}
 
-abbrev store : List ℕ
+abbrev pub store : List ℕ
 store = replicate 32768 0
 
-whole : _≡_ {A = ℕ} (length store) 32768
+pub whole : _≡_ {A = ℕ} (length store) 32768
 whole = length-replicate {A = ℕ} 32768 0
 
 -- 183 bytes of a section are held
-abbrev earlier : List Call
+abbrev pub earlier : List Call
 earlier = lend front ∷ openCall 0 All ∷ []
 
 -- what an answer says
-abbrev saidIn : Event → Said
+abbrev pub saidIn : Event → Said
 saidIn (openEvent pid choice a) = unwanted
 saidIn (closeEvent number a) = unwanted
 saidIn (packetEvent p lent (refused n) left) = unwanted

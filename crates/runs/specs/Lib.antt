@@ -4,6 +4,6 @@ pub mod Answers
 pub mod Demand
 pub mod Accounts
 pub mod Choices
-pub mod AsNew
 pub mod Wrong
+pub mod AsNew
 pub mod Promises
