@@ -2,7 +2,7 @@
 -- Assumes nothing.
 use mathlib.Core.Path.{_≡_, refl, sym, _∙_, ap, ap₂}
 use mathlib.Core.Bool.{Bool, true, false, cond, not, _&&_, false≢true}
-use mathlib.Core.List.{List, [], _∷_, _++_, map}
+use mathlib.Core.List.{List, [], _∷_, _++_, map, reverse, reverse-cons, append-nil}
 use Prim.Native.Nat.{ℕ, zero, suc, _+_, _-_, _≤_, _<_, zero-le, suc-le-suc}
 use native.Mathlib.Nat.{not-suc-le-zero, le-of-suc-le-suc, zero-add, add-zero, add-assoc}
 use native.Mathlib.Numerals.{add-one}
@@ -180,6 +180,17 @@ module _ {ℓ ℓ′} {A : Type ℓ} {B : Type ℓ′} (f : A → B) where
   map-at (x ∷ xs) zero d z h = refl
   map-at (x ∷ xs) (suc i) d z h = map-at xs i d z (le-of-suc-le-suc h)
 
+  -- a store in it is a store before it was made
+  pub set-map : (l : List A) (i : ℕ) (x : A) → set (map f l) i (f x) ≡ map f (set l i x)
+  set-map [] i x = refl
+  set-map (y ∷ ys) zero x = refl
+  set-map (y ∷ ys) (suc i) x = ap (λ (t : List B). f y ∷ t) (set-map ys i x)
+
+  -- what is found in it is found by the same test before
+  pub find-map : (p : B → Bool) (q : A → Bool) → ((x : A) → p (f x) ≡ q x) → (l : List A) → find p (map f l) ≡ find q l
+  find-map p q same [] = refl
+  find-map p q same (x ∷ xs) = ap₂ (λ (b : Bool) (n : ℕ). cond b 0 (suc n)) (same x) (find-map p q same xs)
+
 -- ---- Every
 module _ {ℓ} {A : Type ℓ} (P : A → Type 0) where
   pub every-at : (l : List A) (d : A) → Every P l → (i : ℕ) → i < length l → P (getD l i d)
@@ -332,6 +343,15 @@ module _ {ℓ} {A : Type ℓ} (p : A → Bool) where
       go : (c : Bool) → keep p (xs ++ b) ≡ keep p xs ++ keep p b → cond c (x ∷ keep p (xs ++ b)) (keep p (xs ++ b)) ≡ cond c (x ∷ keep p xs) (keep p xs) ++ keep p b
       go true e = ap (λ (l : List A). x ∷ l) e
       go false e = e
+
+  -- what is kept of a list that is turned round
+  pub keep-reverse : (l : List A) → keep p (reverse l) ≡ reverse (keep p l)
+  keep-reverse [] = refl
+  keep-reverse (x ∷ xs) = ap (keep p) (reverse-cons x xs) ∙ keep-append (reverse xs) (x ∷ []) ∙ go (p x) (keep-reverse xs)
+    where
+      go : (b : Bool) → keep p (reverse xs) ≡ reverse (keep p xs) → keep p (reverse xs) ++ cond b (x ∷ []) [] ≡ reverse (cond b (x ∷ keep p xs) (keep p xs))
+      go true e = ap (λ (l : List A). l ++ x ∷ []) e ∙ sym (reverse-cons x (keep p xs))
+      go false e = append-nil (keep p (reverse xs)) ∙ e
 
 -- of a list none is kept, or all
 pub keep-none {ℓ} : {A : Type ℓ} (l : List A) → keep (λ x. false) l ≡ []

@@ -4,7 +4,7 @@ use mathlib.Core.Path.{_≡_, refl, sym, _∙_, ap, ap₂, subst}
 use mathlib.Core.Bool.{Bool, true, false, cond, not, _&&_, false≢true}
 use mathlib.Core.List.{List, [], _∷_, map}
 use mathlib.Core.Logic.{_⊎_, inl, inr}
-use Prim.Native.Nat.{ℕ, zero, suc, _+_, _-_, _≤_, _<_}
+use Prim.Native.Nat.{ℕ, _+_, _-_, _≤_, _<_}
 use native.Mathlib.Decide.{ℕ-discrete, decLt}
 use native.Mathlib.Omega.{arith}
 use borrow.Author.Tests.{eqb-true, eqb-false, eq-eqb, ne-eqb, not-true}
@@ -13,10 +13,9 @@ use lib.ListN.{length, getD, set, length-set, length-map, List·getD-map, List·
 use lib.Seq.{getD-set-same, getD-set-other, ext-getD}
 use Rattle.ground.specs.Answer.{refused, given}
 use Rattle.ground.specs.Refusal.{Row, judge, _when_}
-use Rattle.ground.specs.Walk.{find}
 use Rattle.ground.proofs.Judged.{judge-both}
 use Rattle.ground.proofs.Test.{both-true, true-both}
-use Rattle.ground.proofs.Walk.{all-at, all-of, apart-at, apart-of, find-passes}
+use Rattle.ground.proofs.Walk.{set-map, find-map, all-at, all-of, apart-at, apart-of, find-passes}
 use Rattle.gather.specs.Memory.{noMarks}
 use Rattle.state.specs.State.{isUsed, isOpen, hasPid, areaOf, freeAreaOf, freePlaceOf, placeOf, freeArea, freeFilter}
 use Rattle.state.specs.Choice.{soundChoice, codeOf}
@@ -30,16 +29,6 @@ use Rattle.open_call.specs.Open.{AfterOpen, areaFor, openRefusals, withUser, op
 use Rattle.open_call.proofs.OpenStaysSound as opening
 use Rattle.close_call.specs.Close.{AfterClose, closeRefusals, withoutUser, areaAt, withoutFilter, closeOf}
 use Rattle.runs.specs.AsNew.{forgotten, anew}
-
--- ---- lists that are made into others
-find-map {ℓ ℓ′} : {A : Type ℓ} {B : Type ℓ′} (f : A → B) (p : B → Bool) (q : A → Bool) → ((x : A) → p (f x) ≡ q x) → (l : List A) → find p (map f l) ≡ find q l
-find-map f p q same [] = refl
-find-map f p q same (x ∷ l) = ap₂ (λ (b : Bool) (n : ℕ). cond b 0 (suc n)) (same x) (find-map f p q same l)
-
-pub set-map {ℓ ℓ′} : {A : Type ℓ} {B : Type ℓ′} (f : A → B) (l : List A) (i : ℕ) (x : A) → set (map f l) i (f x) ≡ map f (set l i x)
-set-map f [] i x = refl
-set-map f (y ∷ l) zero x = refl
-set-map f (y ∷ l) (suc i) x = ap (λ (t : List _). f y ∷ t) (set-map f l i x)
 
 module _ (pid : ℕ) where
   -- ---- one area

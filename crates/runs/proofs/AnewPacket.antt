@@ -13,6 +13,7 @@ use lib.Seq.{set-getD}
 use Rattle.ground.specs.Answer.{refused, given}
 use Rattle.ground.specs.Write.{put}
 use Rattle.ground.proofs.Part.{length-part}
+use Rattle.ground.proofs.Walk.{set-map}
 use Rattle.ground.proofs.Write.{length-put}
 use Rattle.packet.specs.Packet.{contents}
 use Rattle.packet.specs.Payload.{payloadOf}
@@ -38,7 +39,7 @@ use Rattle.runs.specs.Run.{Buffers, World, packetEvent}
 use Rattle.runs.specs.AsNew.{forgotten, anew, saidOfJump, SameHeld}
 use Rattle.runs.proofs.Apart.{other-area}
 use Rattle.runs.proofs.TwoStates.{told, left, packet-two}
-use Rattle.runs.proofs.Anew.{set-map, of-other, of-own, forgotten-at, area-stays, long, one-forgotten, anew-clauses, anew-sound}
+use Rattle.runs.proofs.Anew.{of-other, of-own, forgotten-at, area-stays, long, one-forgotten, anew-clauses, anew-sound}
 
 -- a world whose area of the PID has seen nothing
 abbrev pub forget : ℕ → World → World

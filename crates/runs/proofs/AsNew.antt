@@ -9,7 +9,7 @@ use borrow.Author.Tests.{eqb-true, eqb-false, not-true, not-false, ltb-false}
 use lib.Dec.{eqb}
 use lib.ListN.{length, getD, getD-replicate}
 use Rattle.ground.specs.Walk.{keep}
-use Rattle.ground.proofs.Walk.{find-first, keep-append}
+use Rattle.ground.proofs.Walk.{find-first, keep-reverse}
 use Rattle.gather.specs.Memory.{stretch}
 use Rattle.state.specs.State.{isUsed, hasPid, areaOf, areaStart, freeArea}
 use Rattle.state.specs.declared.Area.{Area}
@@ -126,14 +126,6 @@ after-starts store store₂ whole whole₂ earlier earlier₂ p lent differ star
         joins store store₂ whole whole₂ (pidOf p) cs c (start-lands (w .state) (w .store) p lent (fine w h l) (agrees w h l (pidOf p)) starts some (t .said) (t .left) (t .answer) (t .wanted) (t .original))
 
 -- ---- calls as they come
-keep-reverse {ℓ} : {A : Type ℓ} (test : A → Bool) (l : List A) → keep test (reverse l) ≡ reverse (keep test l)
-keep-reverse test [] = refl
-keep-reverse test (x ∷ l) = ap (keep test) (reverse-cons x l) ∙ keep-append test (reverse l) (x ∷ []) ∙ go (test x) (keep-reverse test l)
-  where
-    go : (b : Bool) → keep test (reverse l) ≡ reverse (keep test l) → keep test (reverse l) ++ cond b (x ∷ []) [] ≡ reverse (cond b (x ∷ keep test l) (keep test l))
-    go true e = ap (λ (r : List _). r ++ x ∷ []) e ∙ sym (reverse-cons x (keep test l))
-    go false e = append-nil (keep test (reverse l)) ∙ e
-
 played : (store : List ℕ) (cs : List Call) → playFrom ours (start store) cs ≡ worldAfter ours store (reverse cs)
 played store cs = in-order ours store cs .0
 
