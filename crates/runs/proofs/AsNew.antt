@@ -2,13 +2,12 @@
 -- Assumes nothing.
 use mathlib.Core.Path.{_≡_, refl, sym, _∙_, ap, subst}
 use mathlib.Core.Bool.{Bool, true, false, cond, false≢true}
-use mathlib.Core.List.{List, [], _∷_, _++_, reverse, reverse-cons, append-nil}
+use mathlib.Core.List.{List, [], _∷_, reverse}
 use Prim.Native.Nat.{ℕ, _<_}
 use native.Mathlib.Omega.{arith}
 use borrow.Author.Tests.{eqb-true, eqb-false, not-true, not-false, ltb-false}
 use lib.Dec.{eqb}
 use lib.ListN.{length, getD, getD-replicate}
-use Rattle.ground.specs.Walk.{keep}
 use Rattle.ground.proofs.Walk.{find-first, keep-reverse}
 use Rattle.gather.specs.Memory.{stretch}
 use Rattle.state.specs.State.{isUsed, hasPid, areaOf, areaStart, freeArea}
