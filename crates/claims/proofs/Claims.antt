@@ -23,8 +23,7 @@ use Rattle.driver.proofs.Claims as filters
 use Rattle.text.proofs.Claims as texts
 use Rattle.lines.proofs.Claims as listed
 use Rattle.pieces.proofs.Claims as inputs
-use Rattle.runs.specs.Promises.{DemandThreeHolds}
-use Rattle.runs.specs.AsNew.{AsNewHolds}
+use Rattle.runs.specs.Promises.{DemandThreeHolds, AsNewHolds}
 use Rattle.stars.specs.Stars.{EveryCase}
 use Rattle.claims.specs.Claims.{EveryClaim}
 

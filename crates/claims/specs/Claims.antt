@@ -22,8 +22,7 @@ use Rattle.driver.specs.Claims as filters
 use Rattle.text.specs.Claims as texts
 use Rattle.lines.specs.Claims as listed
 use Rattle.pieces.specs.Claims as inputs
-use Rattle.runs.specs.Promises.{DemandThreeHolds}
-use Rattle.runs.specs.AsNew.{AsNewHolds}
+use Rattle.runs.specs.Promises.{DemandThreeHolds, AsNewHolds}
 use Rattle.stars.specs.Stars.{EveryCase}
 
 pub record EveryClaim : Type 0 where

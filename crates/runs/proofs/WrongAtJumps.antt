@@ -7,7 +7,6 @@ use Prim.Native.Nat.{ℕ, _+_}
 use native.Mathlib.Omega.{arith}
 use lib.ListN.{replicate}
 use Rattle.ground.specs.Answer.{given}
-use Rattle.ground.specs.Walk.{Every}
 use Rattle.ground.specs.Write.{put}
 use Rattle.gather.specs.Rule.{rule, walk, add, started, begunIn}
 use Rattle.gather.specs.Kind.{classify, kindOf}
@@ -16,9 +15,10 @@ use Rattle.open_call.specs.Open.{openOf}
 use Rattle.packet_call.specs.Packet.{Said, unwanted, packetOf}
 use Rattle.sound.specs.Sound.{sound}
 use Rattle.driver.proofs.Cases.{packet-ind}
-use Rattle.runs.specs.Run.{Driver, Buffers, openCall, packetCall, World, Event, packetEvent, event, runFrom}
+use Rattle.runs.specs.Run.{Buffers, openCall, packetCall, World, Event, packetEvent, event, runFrom}
 use Rattle.runs.specs.Wrong.{toldAs}
-use Rattle.runs.specs.AsNew.{AsNew, toldNoJump, jumpHidden, jumpDropped, heldBytesKept, allForgotten}
+use Rattle.runs.specs.AsNew.{AsNew}
+use Rattle.runs.specs.WrongAtJumps.{toldNoJump, jumpHidden, jumpDropped, heldBytesKept, allForgotten, ExcludedAtJumps}
 use Rattle.runs.proofs.Examples.{zeros, lend, jumping}
 use Rattle.runs.proofs.TooMuch.{store, whole, earlier, saidIn}
 
@@ -74,5 +74,5 @@ all-forgotten claim =
     let lost : _≡_ {A = ℕ} 0 1 = ap lastSections (k .onward .log (lend backOfFive ∷ [])) in
     omega arith
 
-pub excluded : Every (λ (d : Driver). AsNew d → ⊥) (jumpHidden ∷ jumpDropped ∷ heldBytesKept ∷ allForgotten ∷ [])
+pub excluded : ExcludedAtJumps
 excluded = (jump-hidden, (jump-dropped, (held-bytes-kept, (all-forgotten, tt))))

@@ -2,28 +2,27 @@
 use mathlib.Core.Path.{_≡_}
 use mathlib.Core.Bool.{Bool, true, false, cond, not}
 use mathlib.Core.List.{List, [], _∷_, _++_, map}
-use Prim.Native.Nat.{ℕ, suc, _+_, _%_, _≤_, _<_}
+use Prim.Native.Nat.{ℕ, suc, _+_, _≤_, _<_}
 use lib.Dec.{eqb}
 use lib.ListN.{length, getD, drop}
 use Rattle.ground.specs.House.{areaCount, storeBytes}
-use Rattle.ground.specs.Answer.{Answer, refused, given}
+use Rattle.ground.specs.Answer.{given}
 use Rattle.ground.specs.Perhaps.{there}
-use Rattle.ground.specs.Walk.{Every, keep}
+use Rattle.ground.specs.Walk.{keep}
 use Rattle.packet.specs.Packet.{contents}
 use Rattle.packet.specs.Payload.{payloadOf}
 use Rattle.gather.specs.Rule.{Packet, unfinishedOf, rule}
-use Rattle.gather.specs.Memory.{noMarks, heldOf, stretch, marksAs}
+use Rattle.gather.specs.Memory.{noMarks, stretch}
 use Rattle.state.specs.State.{areaStart, isUsed, freeArea, hasPid, areaOf}
 use Rattle.state.specs.Choice.{through}
 use Rattle.state.specs.declared.Area.{Area}
 use Rattle.state.specs.declared.Choice.{Choice}
 use Rattle.state.specs.declared.State.{State}
 use Rattle.open_call.specs.Open.{hasArea}
-use Rattle.packet_call.specs.Packet.{Said, AfterPacket, pidOf, heldIn, packetOf}
-use Rattle.runs.specs.Run.{Driver, Buffers, Call, openCall, closeCall, packetCall, World, packetEvent, after, event, runFrom, logFrom, playFrom, heardFrom, start, ours}
+use Rattle.packet_call.specs.Packet.{Said, pidOf, heldIn}
+use Rattle.runs.specs.Run.{Driver, Buffers, Call, openCall, closeCall, packetCall, World, packetEvent, after, event, runFrom, logFrom, playFrom, heardFrom, start}
 use Rattle.runs.specs.History.{OpenedFilter, AcceptedCall, openingOf, packets, since, upToClose, handed, remembered, completed}
 use Rattle.runs.specs.Demand.{worldAfter, history}
-use Rattle.runs.specs.Wrong.{withPacket, toldAs, retold, toldJump}
 
 -- ---- an area that has seen nothing
 -- an area of this PID with nothing held and no counter seen, as an open leaves it that takes it
@@ -158,51 +157,3 @@ pub record AsNew (d : Driver) : Type 0 where
   -- no less is true: a jump does give up what was held, and a packet in step is not as new
   pub counted : AsNewAfter d (runFrom d) (λ r. r .jump) (λ held. 0) → ⊥
   pub needed : AsNewAfter d (runFrom d) (λ r. r .wanted) unfinishedOf → ⊥
-
--- ---- wrong drivers, each of which it excludes
--- a driver that does something else where ours reports a jump
-abbrev pub isJump : Answer Said → Bool
-isJump (refused n) = false
-isJump (given r) = r .jump
-
-abbrev pub whereItJumps : (State → List ℕ → List ℕ → List ℕ → List ℕ → AfterPacket) → Driver
-whereItJumps other =
-    withPacket (λ s p store out sets.
-    let a = packetOf s p store out sets in
-    cond (isJump (a .answer)) (other s p store out sets) a)
-
--- the jump is not told
-abbrev pub toldNoJump : Said → Said
-toldNoJump r =
-    record { wanted = r .wanted; sections = r .sections; bytes = r .bytes; jump = false; repeat = r .repeat; givenUp = r .givenUp; begun = r .begun }
-
-abbrev pub jumpHidden : Driver
-jumpHidden = withPacket (λ s p store out sets. retold toldNoJump (packetOf s p store out sets))
-
--- the payload of the packet that jumps is dropped
-abbrev pub jumpDropped : Driver
-jumpDropped =
-    whereItJumps (λ s p store out sets.
-    let a = packetOf s p store out sets in
-    record { answer = toldAs (λ r. saidOfJump (r .givenUp) (record { wanted = true; sections = 0; bytes = 0; jump = true; repeat = false; givenUp = 0; begun = 0 })) (a .answer); state = a .state; store = store; out = out; sets = sets })
-
--- the held bytes are kept: the packet is told as a jump and taken as if it were in step
-abbrev pub heldBytesKept : Driver
-heldBytesKept =
-    whereItJumps (λ s p store out sets.
-    let stepped : Area → Area = λ (a : Area). cond (hasPid (pidOf p) a) (record { pid = a .pid; users = a .users; marks = marksAs (heldOf (a .marks)) 1 ((contents p .counter + 15) % 16) 0 }) a in
-    retold toldJump (packetOf (record { areas = map stepped (s .areas); filters = s .filters; choices = s .choices; next = s .next }) p store out sets))
-
--- a jump forgets what every area has seen, also those of other PIDs
-abbrev pub allForgotten : Driver
-allForgotten =
-    whereItJumps (λ s p store out sets.
-    let a = packetOf s p store out sets in
-    let forgets : Area → Area = λ (x : Area). record { pid = x .pid; users = x .users; marks = noMarks } in
-    record { answer = a .answer; state = record { areas = map forgets (a .state .areas); filters = a .state .filters; choices = a .state .choices; next = a .state .next }; store = a .store; out = a .out; sets = a .sets })
-
--- ---- what is promised
-pub record AsNewHolds : Type 0 where
-  pub holds : AsNew ours
-  pub completes : Completes
-  pub excluded : Every (λ (d : Driver). AsNew d → ⊥) (jumpHidden ∷ jumpDropped ∷ heldBytesKept ∷ allForgotten ∷ [])

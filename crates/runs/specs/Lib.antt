@@ -6,4 +6,5 @@ pub mod Accounts
 pub mod Choices
 pub mod Wrong
 pub mod AsNew
+pub mod WrongAtJumps
 pub mod Promises

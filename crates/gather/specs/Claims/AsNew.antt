@@ -10,7 +10,7 @@ use Rattle.gather.specs.Run.{Ran, run, outcomes}
 use Rattle.gather.specs.Claims.OneRepeat.{hasPayload, Brings}
 
 -- ---- a jump
--- "Only the jump mark and the given-up count of that first call may differ": of what a freshly taken area tells, where it had held these bytes before and jumps
+-- "Only the jump mark and the given-up count of that first call may differ": what is told of a packet that jumps where these bytes were held, by what a freshly taken area tells of it
 abbrev pub jumped : List ℕ → Outcome → Outcome
 jumped held o =
     record { next = o .next; sections = o .sections; jump = true; repeat = o .repeat; givenUp = unfinished held + o .givenUp; begun = o .begun }
@@ -27,7 +27,7 @@ Forgets gather = (s : State) (p : Packet) → gather s p .jump ≡ true → gath
 abbrev pub atJumps : (State → Packet → Outcome) → State → Packet → Outcome
 atJumps other s p = cond (rule s p .jump) (other s p) (rule s p)
 
--- the mark of a repeat is kept, so that the next packet with this counter jumps again
+-- a jump leaves the mark of a repeat, so that the next packet with this counter jumps again
 abbrev pub markKept : State → Packet → Outcome
 markKept =
     atJumps (λ s p.
