@@ -24,7 +24,7 @@ use Rattle.gather.specs.Memory.{noMarks, heldOf, marksOf, stateOf, stretch, con
 use Rattle.gather.specs.Claims.AsNew.{jumped}
 use Rattle.gather.proofs.AsNew.{as-new}
 use Rattle.gather.proofs.RuleOnMemory.{sound-says}
-use Rattle.state.specs.State.{isUsed, hasPid, areaOf, areaStart, freeArea}
+use Rattle.state.specs.State.{hasPid, areaOf, areaStart, freeArea}
 use Rattle.state.specs.Choice.{placesOf}
 use Rattle.state.specs.declared.Area.{Area}
 use Rattle.state.specs.declared.State.{State}
@@ -36,7 +36,7 @@ use Rattle.packet_call.specs.Packet.{Said, unwanted, AfterPacket, asGiven, pidO
 use Rattle.driver.proofs.Cases.{Handles, packet-ind}
 use Rattle.driver.proofs.StaysSound.{held-fits, held-inside}
 use Rattle.runs.specs.Run.{Buffers, World, packetEvent}
-use Rattle.runs.specs.AsNew.{forgotten, anew, saidOfJump, SameHeld}
+use Rattle.runs.specs.AsNew.{forgotten, anew, saidOfJump, HoldsSame, SameHeld}
 use Rattle.runs.proofs.Apart.{other-area}
 use Rattle.runs.proofs.TwoStates.{told, left, packet-two}
 use Rattle.runs.proofs.Anew.{of-other, of-own, forgotten-at, area-stays, long, one-forgotten, anew-clauses, anew-sound}
@@ -112,7 +112,7 @@ module _ (s : State) (store p : List ℕ) (lent : Buffers) where
       (λ h. record {
         state = ap as-state (areas-same h);
         size = length-put store (areaStart own) (o .next .held) (inside h);
-        held = subst (λ (x : State). HeldSame x) (ap as-state (sym (areas-same h))) (held h);
+        held = subst (λ (x : State). HoldsSame x (put store (areaStart own) (o .next .held)) store) (ap as-state (sym (areas-same h))) (held h);
       })
     where
       o : Outcome
@@ -124,11 +124,6 @@ module _ (s : State) (store p : List ℕ) (lent : Buffers) where
       as-state : List Area → State
       as-state l = record { areas = l; filters = s .filters; choices = s .choices; next = s .next }
 
-      HeldSame : State → Type 0
-      HeldSame x =
-          (i : ℕ) → i < length (x .areas) → isUsed (getD (x .areas) i freeArea) ≡ true
-          → stretch (heldIn i x) (put store (areaStart own) (o .next .held)) (areaStart i) ≡ stretch (heldIn i x) store (areaStart i)
-
       areas-same : Handles s p store out sets → map forgets (set (s .areas) own (withMarks area o)) ≡ map forgets (s .areas)
       areas-same h =
           sym (set-map forgets (s .areas) own (withMarks area o))
@@ -138,7 +133,7 @@ module _ (s : State) (store p : List ℕ) (lent : Buffers) where
       inside : Handles s p store out sets → areaStart own + length (o .next .held) ≤ length store
       inside h = held-inside s p store out sets eight h
 
-      held : Handles s p store out sets → HeldSame (anew (pidOf p) s)
+      held : Handles s p store out sets → HoldsSame (anew (pidOf p) s) (put store (areaStart own) (o .next .held)) store
       held h i b u = go (ℕ-discrete i own)
         where
           go : Dec (i ≡ own) → stretch (heldIn i (anew (pidOf p) s)) (put store (areaStart own) (o .next .held)) (areaStart i) ≡ stretch (heldIn i (anew (pidOf p) s)) store (areaStart i)

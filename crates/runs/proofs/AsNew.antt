@@ -3,21 +3,20 @@
 use mathlib.Core.Path.{_≡_, refl, sym, _∙_, ap, subst}
 use mathlib.Core.Bool.{Bool, true, false, cond, false≢true}
 use mathlib.Core.List.{List, [], _∷_, reverse}
-use Prim.Native.Nat.{ℕ, _<_}
+use Prim.Native.Nat.{ℕ}
 use native.Mathlib.Omega.{arith}
 use borrow.Author.Tests.{eqb-true, eqb-false, not-true, not-false, ltb-false}
 use lib.Dec.{eqb}
-use lib.ListN.{length, getD, getD-replicate}
+use lib.ListN.{length, getD-replicate}
 use Rattle.ground.proofs.Walk.{find-first, keep-reverse}
-use Rattle.gather.specs.Memory.{stretch}
-use Rattle.state.specs.State.{isUsed, hasPid, areaOf, areaStart, freeArea}
+use Rattle.state.specs.State.{hasPid, areaOf, freeArea}
 use Rattle.state.specs.declared.Area.{Area}
 use Rattle.state.specs.declared.State.{State}
 use Rattle.open_call.specs.Open.{openOf}
-use Rattle.packet_call.specs.Packet.{pidOf, heldIn}
+use Rattle.packet_call.specs.Packet.{pidOf}
 use Rattle.runs.specs.Run.{Call, openCall, closeCall, packetCall, World, after, runFrom, playFrom, start, ours}
 use Rattle.runs.specs.Demand.{worldAfter, history}
-use Rattle.runs.specs.AsNew.{anew, FreshlyTaken, isElse, without, AfterJumps, TakenIn, AfterStarts, SameHeld}
+use Rattle.runs.specs.AsNew.{anew, FreshlyTaken, isElse, without, AfterJumps, TakenIn, AfterStarts, HoldsSame, SameHeld}
 use Rattle.runs.proofs.InOrder.{in-order}
 use Rattle.runs.proofs.Steps.{ledger, fine, agrees}
 use Rattle.runs.proofs.Unread.{areas-stay, unread, onward}
@@ -25,19 +24,15 @@ use Rattle.runs.proofs.Anew.{long, none-forgotten, open-anew, close-ane
 use Rattle.runs.proofs.AnewPacket.{forget, other-packet, own-packet, jump-lands, start-lands}
 
 -- ---- worlds that hold the same
-abbrev HeldSame : State → World → World → Type 0
-HeldSame s w v =
-    (i : ℕ) → i < length (s .areas) → isUsed (getD (s .areas) i freeArea) ≡ true → stretch (heldIn i s) (w .store) (areaStart i) ≡ stretch (heldIn i s) (v .store) (areaStart i)
-
 same-sym : {w v : World} → SameHeld w v → SameHeld v w
-same-sym {w} {v} s = record { state = sym (s .state); size = sym (s .size); held = subst (λ (x : State). HeldSame x v w) (s .state) (λ i b u. sym (s .held i b u)) }
+same-sym {w} {v} s = record { state = sym (s .state); size = sym (s .size); held = subst (λ (x : State). HoldsSame x (v .store) (w .store)) (s .state) (λ i b u. sym (s .held i b u)) }
 
 same-trans : {w v x : World} → SameHeld w v → SameHeld v x → SameHeld w x
 same-trans {w} {v} {x} s t =
     record {
       state = s .state ∙ t .state;
       size = s .size ∙ t .size;
-      held = λ i b u. s .held i b u ∙ subst (λ (y : State). HeldSame y v x) (sym (s .state)) (t .held) i b u;
+      held = λ i b u. s .held i b u ∙ subst (λ (y : State). HoldsSame y (v .store) (x .store)) (sym (s .state)) (t .held) i b u;
     }
 
 -- ---- beside a run

@@ -35,9 +35,9 @@ saidIn (packetEvent p lent (refused n) left) = unwanted
 saidIn (packetEvent p lent (given r) left) = r
 
 -- a jump gives up the held section, and where none is held there is none to give up
-pub count-needed : AsNewAfter ours (runFrom ours) (λ r. r .jump) (λ held. 0) → ⊥
+pub given-up-needed : AsNewAfter ours (runFrom ours) (λ r. r .jump) (λ held. 0) → ⊥
 unfolding openOf packetOf sound put rule walk add started begunIn classify kindOf
-count-needed claim =
+given-up-needed claim =
     let k = claim store store whole whole earlier jumping zeros _ _ refl refl in
     let none : _≡_ {A = ℕ} 0 (k .told .givenUp) = ap (λ (e : Event). saidIn e .givenUp) (k .answer) in
     let one : _≡_ {A = ℕ} 1 (0 + k .told .givenUp) = ap (λ (r : Said). r .givenUp) (k .same) in

@@ -7,7 +7,7 @@ use Prim.Native.Nat.{ℕ, _<_}
 use borrow.Author.Tests.{leb-false}
 use lib.Dec.{leb, ltb, eqb}
 use lib.ListN.{length}
-use Rattle.ground.specs.Answer.{Answer, refused, given}
+use Rattle.ground.specs.Answer.{refused, given}
 use Rattle.ground.specs.Refusal.{Row, judge, _when_}
 use Rattle.ground.proofs.Judged.{judge-both}
 use Rattle.packet.specs.Packet.{packetRefusals, contents}
@@ -17,9 +17,10 @@ use Rattle.gather.specs.Memory.{contradictsOf}
 use Rattle.state.specs.State.{areaOf, areaStart}
 use Rattle.state.specs.declared.State.{State}
 use Rattle.sound.specs.Sound.{sound}
-use Rattle.packet_call.specs.Packet.{Said, unwanted, AfterPacket, asGiven, pidOf, heldIn, firstRefusals, lastRefusals, outcome, putBack, afterTests, afterReading, packetOf}
+use Rattle.packet_call.specs.Packet.{unwanted, AfterPacket, asGiven, pidOf, heldIn, firstRefusals, lastRefusals, outcome, putBack, afterTests, afterReading, packetOf}
 use Rattle.driver.proofs.Cases.{Handles, packet-ind}
 use Rattle.runs.specs.Run.{Buffers, World, Event, packetEvent}
+use Rattle.runs.specs.History.{isAccepted}
 
 -- what a packet call tells, and the world that it leaves
 abbrev pub told : List ℕ → Buffers → AfterPacket → Event
@@ -28,14 +29,13 @@ told p lent o = packetEvent p lent (o .answer) (record { out = o .out; sets = o 
 abbrev pub left : AfterPacket → World
 left o = record { state = o .state; store = o .store }
 
--- the packet was taken
-abbrev isTaken : Answer Said → Bool
-isTaken (refused n) = false
-isTaken (given r) = r .wanted
+-- an accepted packet was taken
+abbrev isTaken : List ℕ → AfterPacket → Bool
+isTaken p o = isAccepted (told p (record { out = o .out; sets = o .sets }) o)
 
-taken-handles : (s : State) (p store out sets : List ℕ) → isTaken (packetOf s p store out sets .answer) ≡ true → Handles s p store out sets
+taken-handles : (s : State) (p store out sets : List ℕ) → isTaken p (packetOf s p store out sets) ≡ true → Handles s p store out sets
 taken-handles s p store out sets =
-    packet-ind s p store out sets (λ o. isTaken (o .answer) ≡ true → Handles s p store out sets) (λ n a b e. absurd (false≢true e)) (λ b e. absurd (false≢true e)) (λ h e. h)
+    packet-ind s p store out sets (λ o. isTaken p o ≡ true → Handles s p store out sets) (λ n a b e. absurd (false≢true e)) (λ b e. absurd (false≢true e)) (λ h e. h)
 
 module _ (s s₂ : State) (p store store₂ out sets : List ℕ) where
   abbrev own : ℕ
@@ -97,5 +97,5 @@ module _ (s s₂ : State) (p store store₂ out sets : List ℕ) where
         → R (putBack s (areaOf (pidOf p) (s .areas)) (outcome s (areaOf (pidOf p) (s .areas)) p store) store out sets) (putBack s₂ (areaOf (pidOf p) (s₂ .areas)) (outcome s₂ (areaOf (pidOf p) (s₂ .areas)) p store₂) store₂ out sets))
         → R (packetOf s p store out sets) (packetOf s₂ p store₂ out sets)
     packet-two R refuses leaves takes =
-        both-ind (λ o o₂. (isTaken (o .answer) ≡ true → Handles s p store out sets) → (isTaken (o₂ .answer) ≡ true → Handles s₂ p store₂ out sets) → R o o₂)
+        both-ind (λ o o₂. (isTaken p o ≡ true → Handles s p store out sets) → (isTaken p o₂ ≡ true → Handles s₂ p store₂ out sets) → R o o₂)
         (λ n a b. refuses n) (λ a b. leaves) (λ a b. takes (a refl) (b refl)) both (taken-handles s p store out sets) (taken-handles s₂ p store₂ out sets)

@@ -133,12 +133,17 @@ HandedAgain d =
     → handed f h ≡ through (f .choice) (completed before (drop (sinceOpen g h₂) (packetsFor f h))) ++ handed g h₂
 
 -- ---- no byte of the store is read that is not held
+-- every used area of a state holds the same bytes in both stores
+abbrev pub HoldsSame : State → List ℕ → List ℕ → Type 0
+HoldsSame s store store₂ =
+    (i : ℕ) → i < length (s .areas) → isUsed (getD (s .areas) i freeArea) ≡ true
+    → stretch (heldIn i s) store (areaStart i) ≡ stretch (heldIn i s) store₂ (areaStart i)
+
 -- equal states, stores of one size, and equal held bytes of every used area
 pub record SameHeld (w v : World) : Type 0 where
   pub state : w .state ≡ v .state
   pub size : length (w .store) ≡ length (v .store)
-  pub held : (i : ℕ) → i < length (w .state .areas) → isUsed (getD (w .state .areas) i freeArea) ≡ true
-      → stretch (heldIn i (w .state)) (w .store) (areaStart i) ≡ stretch (heldIn i (w .state)) (v .store) (areaStart i)
+  pub held : HoldsSame (w .state) (w .store) (v .store)
 
 -- then no call tells them apart, and it leaves them so
 abbrev pub Unread : Driver → Type 0
@@ -155,5 +160,5 @@ pub record AsNew (d : Driver) : Type 0 where
   pub unread : Unread d
   pub taken : FreshlyTaken d
   -- no less is true: a jump does give up what was held, and a packet in step is not as new
-  pub counted : AsNewAfter d (runFrom d) (λ r. r .jump) (λ held. 0) → ⊥
-  pub needed : AsNewAfter d (runFrom d) (λ r. r .wanted) unfinishedOf → ⊥
+  pub givenUpNeeded : AsNewAfter d (runFrom d) (λ r. r .jump) (λ held. 0) → ⊥
+  pub jumpNeeded : AsNewAfter d (runFrom d) (λ r. r .wanted) unfinishedOf → ⊥

@@ -71,7 +71,7 @@ pub record StartForgets : Type 0 where
   pub most : (s : State) (p : Packet) → length (finishedFirst s p) ≤ 1
 
 -- ---- which losses show
--- the counter that comes after this one where so many packets with payload were lost between them
+-- the counter that comes after this one where so many packets with payload were lost between them; one that was sent twice counts once
 abbrev pub counterAfter : ℕ → ℕ → ℕ
 counterAfter l lost = (l + 1 + lost) % 16
 

@@ -8,7 +8,7 @@ use Rattle.runs.proofs.loss.as_new.Tie as tie
 use Rattle.runs.proofs.AsNew.{after-jumps, jumps-as-they-come, after-starts, starts-as-they-come, freshly-taken}
 use Rattle.runs.proofs.Again.{completes, handed-again}
 use Rattle.runs.proofs.Unread.{unread}
-use Rattle.runs.proofs.TooMuch.{count-needed, jump-needed}
+use Rattle.runs.proofs.TooMuch.{given-up-needed, jump-needed}
 use Rattle.runs.proofs.WrongAtJumps.{excluded}
 
 claims : AsNew ours
@@ -21,8 +21,8 @@ claims =
       again = handed-again;
       unread = unread;
       taken = freshly-taken;
-      counted = count-needed;
-      needed = jump-needed;
+      givenUpNeeded = given-up-needed;
+      jumpNeeded = jump-needed;
     }
 
 returns : tie.Need-returns
