@@ -14,7 +14,7 @@ use states::{Shown, States};
 /// The least number of outcomes of each call word.
 const LEAST: u64 = 20_000;
 
-/// Each call word with the refusals that its order in document 01 has, with requests 2 and 6 of document 02.
+/// Each call word with the refusals that its order in document 01 has, with requests 2, 6 and 12 of document 02.
 const CALLS: [(&str, &[u32]); 23] = [
     ("open", &[1, 12, 17, 13, 14, 15]),
     ("close", &[1, 16]),
@@ -31,7 +31,7 @@ const CALLS: [(&str, &[u32]); 23] = [
     ("inner", &[20, 23, 21, 25, 22, 24, 26, 27]),
     ("loop", &[26, 27]),
     ("crc", &[]),
-    ("pes", &[30, 31, 32, 37, 33, 34, 35, 36]),
+    ("pes", &[30, 31, 32, 38, 37, 33, 34, 35, 36]),
     ("stamp", &[40, 41, 36]),
     ("anystamp", &[41, 36]),
     ("setstamp", &[40, 41]),
@@ -70,9 +70,9 @@ const MARKS: [&str; 25] = [
     "bad",
 ];
 
-const REFUSALS: [u32; 35] = [
+const REFUSALS: [u32; 36] = [
     1, 2, 3, 4, 5, 6, 7, 8, 9, 10, 11, 12, 13, 14, 15, 16, 17, 20, 21, 22, 23, 24, 25, 26, 27, 30,
-    31, 32, 33, 34, 35, 36, 37, 40, 41,
+    31, 32, 33, 34, 35, 36, 37, 38, 40, 41,
 ];
 
 #[derive(Default)]

@@ -1,10 +1,12 @@
-//! Document 01, "PES headers".
+//! Document 01, "PES headers", with request 12 of document 02.
 
 use crate::bytes::number_in;
 use crate::refusal_numbers::{demand, Refusal};
 use crate::time::{read_stamp, STAMP_BYTES};
 
-const BARE_IDS: [u64; 8] = [0xBC, 0xBE, 0xBF, 0xF0, 0xF1, 0xF2, 0xF8, 0xFF];
+const BARE_IDS: [u64; 7] = [0xBC, 0xBE, 0xBF, 0xF0, 0xF1, 0xF8, 0xFF];
+
+const DSMCC_ID: u64 = 0xF2;
 
 #[derive(Clone, Copy, Debug, PartialEq, Eq)]
 pub enum Stamps {
@@ -33,6 +35,7 @@ pub fn read_header(bytes: &[u8]) -> Result<Header, Refusal> {
     demand(number_in(bytes, 0, 3) == 1, 31)?;
     let id = number_in(bytes, 3, 1);
     demand(id >= 0xBC, 32)?;
+    demand(id != DSMCC_ID, 38)?;
     let packet_length = number_in(bytes, 4, 2);
     demand(packet_length != 0 || (0xE0..=0xEF).contains(&id), 37)?;
     let full = if BARE_IDS.contains(&id) {

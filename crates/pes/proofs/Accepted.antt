@@ -27,7 +27,7 @@ passed s h e = let r = given-by (pesRefusals s) (headerContents s) (full h) e in
     go : (b : Bool) → Silent (startRefusals s ++ cond b [] (optionalRefusals s)) → full h ≡ cond b (bare (idOf s) (packetLengthOf s)) (optionalOf s)
         → Silent (optionalRefusals s) × (h ≡ fullOf s (stampsOf s (codeOf (secondFlags s))))
     go true silent e = let z : _≡_ {A = ℕ} 0 1 = cc in absurd (omega arith)
-    go false silent e = (silent .1 .1 .1 .1, cc)
+    go false silent e = (silent .1 .1 .1 .1 .1, cc)
 
 -- ---- lengths
 counted-by : (packet fields header : ℕ) → passesLength packet fields header ≡ false → (packet ≡ 0 → ⊥) → 3 + header ≤ packet

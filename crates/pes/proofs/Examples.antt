@@ -1,11 +1,12 @@
--- Two headers of published recordings and one without optional header, by computation.
+-- Two headers of published recordings, one without optional header, and request 12's, by computation.
 -- Assumes nothing.
 use mathlib.Core.Path.{_≡_, refl}
 use mathlib.Core.Bool.{false}
 use mathlib.Core.List.{List, [], _∷_}
 use Prim.Native.Nat.{ℕ}
-use Rattle.ground.specs.Answer.{given}
-use Rattle.pes.specs.Stamps.{pts, both}
+use Rattle.ground.specs.Answer.{refused, given}
+use Rattle.pes.specs.Stream.{isBare}
+use Rattle.pes.specs.Stamps.{none, pts, both}
 use Rattle.pes.specs.Header.{full, bare, readHeader}
 
 -- audio with a PTS and two bytes of stuffing: sharedmime_settopbox.ts, packet 273
@@ -51,3 +52,35 @@ video-read = refl
 -- a padding stream
 pub padding-read : readHeader (0x00 ∷ 0x00 ∷ 0x01 ∷ 0xBE ∷ 0x01 ∷ 0x02 ∷ 0xFF ∷ []) ≡ given (bare 0xBE 258)
 padding-read = refl
+
+-- ---- request 12
+-- the id 0xF2 is refused 38, whatever its length
+pub dsmcc-read : readHeader (0x00 ∷ 0x00 ∷ 0x01 ∷ 0xF2 ∷ 0x00 ∷ 0x05 ∷ []) ≡ refused 38
+dsmcc-read = refl
+
+-- also where 37 would apply
+pub dsmcc-endless : readHeader (0x00 ∷ 0x00 ∷ 0x01 ∷ 0xF2 ∷ 0x00 ∷ 0x00 ∷ []) ≡ refused 38
+dsmcc-endless = refl
+
+-- but not under 6 bytes
+pub dsmcc-short : readHeader (0x00 ∷ 0x00 ∷ 0x01 ∷ 0xF2 ∷ 0x00 ∷ []) ≡ refused 30
+dsmcc-short = refl
+
+-- and it is none of the ids without optional header any more
+pub dsmcc-unlisted : isBare 0xF2 ≡ false
+dsmcc-unlisted = refl
+
+-- the next id has its optional header as before
+pub next-read : readHeader (0x00 ∷ 0x00 ∷ 0x01 ∷ 0xF3 ∷ 0x00 ∷ 0x03 ∷ 0x80 ∷ 0x00 ∷ 0x00 ∷ []) ≡ given (full (record {
+  streamId = 0xF3;
+  packetLength = 3;
+  headerLength = 0;
+  stamps = none;
+  escr = false;
+  rate = false;
+  trick = false;
+  copy = false;
+  crc = false;
+  extension = false;
+}))
+next-read = refl

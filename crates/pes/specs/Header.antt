@@ -1,4 +1,4 @@
--- Document 01, "PES headers" and "Refusal numbers"; H.222.0 2.4.3.6 and 2.4.3.7: a PES header.
+-- Document 01, "PES headers" and "Refusal numbers", and document 02, ticket 12; H.222.0 2.4.3.6 and 2.4.3.7: a PES header.
 use mathlib.Core.Bool.{Bool, cond, not, _&&_, _||_}
 use mathlib.Core.List.{List, [], _∷_, _++_}
 use Prim.Native.Nat.{ℕ, _+_, _*_}
@@ -7,7 +7,7 @@ use lib.ListN.{length, getD}
 use Rattle.ground.specs.Answer.{Answer, refused, given}
 use Rattle.ground.specs.Number.{bits, isFlagged, numberAt}
 use Rattle.ground.specs.Refusal.{Row, judge, _when_}
-use Rattle.pes.specs.Stream.{isBare, isEndless}
+use Rattle.pes.specs.Stream.{isDsmcc, isBare, isEndless}
 use Rattle.pes.specs.Stamps.{Times, toldStamps, stampsSize, stampRefusals, stampsOf}
 use Rattle.pes.specs.declared.Header.{Header}
 use Rattle.pes.specs.declared.Reading.{Reading}
@@ -90,12 +90,13 @@ abbrev pub passesLength : ℕ → ℕ → ℕ → Bool
 passesLength packetLength fields headerLength = ltb headerLength fields || (not (eqb packetLength 0) && ltb packetLength (3 + headerLength))
 
 -- ---- the table
--- "PES: 30 (under 6 bytes), 31, 32, 37"
+-- "PES: 30 (under 6 bytes), 31, 32, 37", and "38, right after 32"
 abbrev pub startRefusals : List ℕ → List Row
 startRefusals s =
     (30 when ltb (length s) 6)
     ∷ (31 when not (eqb (numberAt s 0 3) 1))
     ∷ (32 when ltb (idOf s) 0xBC)
+    ∷ (38 when isDsmcc (idOf s))
     ∷ (37 when isEndless (idOf s) (packetLengthOf s))
     ∷ []
 

@@ -111,6 +111,9 @@ pub fn read(bytes: &[u8]) -> Reading
     if id < 0xBC {
         return Reading::Refused(32);
     }
+    if stream::is_dsmcc(id) {
+        return Reading::Refused(38);
+    }
     let size = number_of_two(bytes[4], bytes[5]);
     if stream::is_endless(id, size) {
         return Reading::Refused(37);

@@ -1,6 +1,13 @@
 // What a stream_id says of its PES packets.
 ghost use mathlib.Core.Path.{_≡_};
-ghost use Rattle.pes.specs.Stream.{isBare, isEndless};
+ghost use Rattle.pes.specs.Stream.{isDsmcc, isBare, isEndless};
+
+// Whether the id is the DSM-CC stream's, which is refused.
+pub(crate) fn is_dsmcc(id: u8) -> bool
+    ensures { λ r. ⌜ r ≡ isDsmcc id ⌝ }
+{
+    id == 0xF2
+}
 
 // Whether the id has no optional header.
 pub(crate) fn is_bare(id: u8) -> bool
@@ -11,7 +18,6 @@ pub(crate) fn is_bare(id: u8) -> bool
         | (id == 0xBF)
         | (id == 0xF0)
         | (id == 0xF1)
-        | (id == 0xF2)
         | (id == 0xF8)
         | (id == 0xFF)
 }

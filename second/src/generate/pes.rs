@@ -5,7 +5,9 @@ use super::script::Script;
 use crate::numbers_of_the_house::STAMP_TURN;
 use crate::time::write_stamp;
 
-const BARE: [u8; 8] = [0xBC, 0xBE, 0xBF, 0xF0, 0xF1, 0xF2, 0xF8, 0xFF];
+const BARE: [u8; 7] = [0xBC, 0xBE, 0xBF, 0xF0, 0xF1, 0xF8, 0xFF];
+
+const DSMCC: u8 = 0xF2;
 
 /// The fields of a header, from which its bytes are made.
 struct Plan {
@@ -25,7 +27,11 @@ pub fn generate(random: &mut Random, script: &mut Script) {
             bytes.truncate(random.between(0, 23));
             bytes
         }
-        1 | 2 => bare(random),
+        1 | 2 => {
+            let id = random.pick(&BARE);
+            bare(random, id)
+        }
+        3 => dsmcc(random),
         _ => {
             let plan = plan(random);
             let bytes = whole(random, &plan);
@@ -35,8 +41,8 @@ pub fn generate(random: &mut Random, script: &mut Script) {
     script.call_with("pes", &bytes);
 }
 
-fn bare(random: &mut Random) -> Vec<u8> {
-    let mut bytes = vec![0, 0, 1, random.pick(&BARE)];
+fn bare(random: &mut Random, id: u8) -> Vec<u8> {
+    let mut bytes = vec![0, 0, 1, id];
     let length = random.pick(&[0, 1, 255, 256, 65_535]) as u16;
     bytes.extend(length.to_be_bytes());
     let more = random.pick(&[0, 0, 1, 3, 10]);
@@ -45,6 +51,17 @@ fn bare(random: &mut Random) -> Vec<u8> {
         bytes.truncate(5);
     }
     bytes
+}
+
+/// The id that is refused, with nothing behind its length, with any bytes or with such as another id would have.
+fn dsmcc(random: &mut Random) -> Vec<u8> {
+    if random.one_in(3) {
+        return bare(random, DSMCC);
+    }
+    let mut plan = plan(random);
+    plan.id = DSMCC;
+    let bytes = whole(random, &plan);
+    damaged(random, bytes)
 }
 
 fn stream_id(random: &mut Random) -> u8 {

@@ -55,6 +55,14 @@ fn request_10_as_a_script() {
     );
 }
 
+#[test]
+fn request_12_as_a_script() {
+    answered(
+        include_str!("../../examples/request-12.script"),
+        include_str!("../../examples/request-12.expected"),
+    );
+}
+
 const MALFORMED: [&str; 52] = [
     "",
     " ",

@@ -194,6 +194,20 @@ fn pes_headers() {
 }
 
 #[test]
+fn the_ids_of_pes_headers() {
+    for id in 0..=255 {
+        let answer = match id {
+            0..=0xBB => String::from("refused 32"),
+            0xF2 => String::from("refused 38"),
+            0xBC | 0xBE | 0xBF | 0xF0 | 0xF1 | 0xF8 | 0xFF => format!("bare {} 3", id),
+            _ => format!("full {} 3 0 0 0 0 0 0 0 stamps -", id),
+        };
+        let line = format!("pes =000001{:02x}0003800000", id);
+        assert_eq!(outcome(&line), format!("pes {}", answer));
+    }
+}
+
+#[test]
 fn pes_stamps() {
     let examples = [
         ("80052100 05bf21", "full 224 0 5 0 0 0 0 0 0 stamps 90000"),

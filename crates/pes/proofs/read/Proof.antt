@@ -15,13 +15,15 @@ use Rattle.pes.proofs.read.Tie as tie
 
 -- where the id's form is known, what is left of the header
 reads : (c : tie.After-is-bare) (b : Bool) → c .is-bare .result ≡ b
-    → let s = now (c .before .before .before .before .before .before .before .before .before .before .before .before .before .before .before .args .bytes) in cond b (given (bare (idOf s) (packetLengthOf s))) (readOptional s) ≡ readHeader s
+    → let s = now (c .before .before .before .before .before .before .before .before .before .before .before .before .before .before .before .before .before .args .bytes) in cond b (given (bare (idOf s) (packetLengthOf s))) (readOptional s) ≡ readHeader s
 reads c b e =
-    let long = c .before .before .before .before .before .before .before .before .before .before .before .before .before .if1 .left in
-    let start = sym (c .before .before .before .before .before .before .before .before .before .number-of-three .ensures) ∙ c .before .before .before .before .before .before .before .before .if2 .left in
-    let id = c .before .before .before .before .before .before .if3 .left in
+    let passed = c .before .before .before .before .before .before in
+    let long = passed .before .before .before .before .before .before .before .before .before .if1 .left in
+    let start = sym (passed .before .before .before .before .before .number-of-three .ensures) ∙ passed .before .before .before .before .if2 .left in
+    let id = passed .before .before .if3 .left in
+    let other = sym (passed .before .is-dsmcc .ensures) ∙ passed .if4 .left in
     let ends = rw (c .before .before .before .number-of-two .ensures) at (c .before .before .is-endless .ensures) in
-    sym (after-start (now (c .before .before .before .before .before .before .before .before .before .before .before .before .before .before .before .args .bytes)) long start id (sym ends ∙ c .before .if4 .left) b (sym (c .is-bare .ensures) ∙ e))
+    sym (after-start (now (c .before .before .before .before .before .before .before .before .before .before .before .before .before .before .before .before .before .args .bytes)) long start id other (sym ends ∙ c .before .if5 .left) b (sym (c .is-bare .ensures) ∙ e))
 
 returns : tie.Need-returns
 returns c = search (tests, arith)
@@ -47,6 +49,12 @@ shared-slice-read-id c = search needs
 returns-3 : tie.Need-returns-3
 returns-3 c = rw (← c .before .before .before .number-of-three .ensures) (search (tests, arith))
 
+is-dsmcc-requires : tie.Need-is-dsmcc-requires
+is-dsmcc-requires c κs = search needs
+
+returns-4 : tie.Need-returns-4
+returns-4 c = rw (← c .before .before .before .before .before .number-of-three .ensures) (search (tests, arith))
+
 shared-slice-read-number-of-two : tie.Need-shared-slice-read-number-of-two
 shared-slice-read-number-of-two c = search needs
 
@@ -59,20 +67,20 @@ number-of-two-requires c κs = search needs
 is-endless-requires : tie.Need-is-endless-requires
 is-endless-requires c κs = search needs
 
-returns-4 : tie.Need-returns-4
-returns-4 c = rw (← c .before .before .before .before .before .before .before .before .number-of-three .ensures, ← c .before .before .number-of-two .ensures) (search (tests, arith) depth 10)
+returns-5 : tie.Need-returns-5
+returns-5 c = rw (← c .before .before .before .before .before .before .before .before .before .before .number-of-three .ensures, ← c .before .before .number-of-two .ensures) (search (tests, arith) depth 10)
 
 is-bare-requires : tie.Need-is-bare-requires
 is-bare-requires c κs = search needs
 
-returns-5 : tie.Need-returns-5
-returns-5 c = rw (c .before .before .before .before .number-of-two .ensures) (reads (c .before) true (c .if5 .taken))
+returns-6 : tie.Need-returns-6
+returns-6 c = rw (c .before .before .before .before .number-of-two .ensures) (reads (c .before) true (c .if6 .taken))
 
 optional-requires : tie.Need-optional-requires
 optional-requires c κs = search needs
 
-returns-6 : tie.Need-returns-6
-returns-6 c = c .optional .ensures ∙ reads (c .before .before) false (c .before .if5 .left)
+returns-7 : tie.Need-returns-7
+returns-7 c = c .optional .ensures ∙ reads (c .before .before) false (c .before .if6 .left)
 
 pub read-spec : {M : Type 1} → statement M
 read-spec =
@@ -86,12 +94,14 @@ read-spec =
     returns-2
     shared-slice-read-id
     returns-3
+    is-dsmcc-requires
+    returns-4
     shared-slice-read-number-of-two
     shared-slice-read-number-of-two-2
     number-of-two-requires
     is-endless-requires
-    returns-4
-    is-bare-requires
     returns-5
+    is-bare-requires
+    returns-6
     optional-requires
-    returns-6)
+    returns-7)

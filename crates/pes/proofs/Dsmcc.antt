@@ -1,0 +1,87 @@
+-- The row of 0xF2 is the first that applies to such a packet; past it nothing hangs on whether 0xF2 is among the ids without optional header.
+-- Assumes nothing.
+use mathlib.Core.Path.{_≡_, refl, sym, _∙_, ap}
+use mathlib.Core.Bool.{Bool, true, false, cond, not, _||_}
+use mathlib.Core.List.{List, [], _∷_}
+use mathlib.Core.Logic.{_⊎_, inl, inr, ⊎-elim}
+use Prim.Native.Nat.{ℕ}
+use borrow.Author.Tests.{le-ltb, eq-eqb, ltb-false, eqb-true, eqb-false, not-true}
+use lib.Dec.{ltb, eqb}
+use lib.ListN.{length}
+use Rattle.ground.specs.Answer.{refused, given}
+use Rattle.ground.specs.Number.{numberAt}
+use Rattle.ground.specs.Refusal.{Row, judge}
+use Rattle.ground.specs.Walk.{all}
+use Rattle.ground.proofs.Answer.{given-apart, refused-same}
+use Rattle.ground.proofs.Judged.{given-by}
+use Rattle.ground.proofs.Test.{both-true}
+use Rattle.pes.specs.Stream.{isBare}
+use Rattle.pes.specs.Stamps.{stampRefusal}
+use Rattle.pes.specs.Header.{HeaderContents, bare, idOf, packetLengthOf, secondFlags, codeOf, optionalRefusals, optionalOf, headerContents, pesRefusals, readHeader}
+use Rattle.pes.specs.Claims.Dsmcc.{Dsmcc, RefusedExactly, NeverTold, AsBefore, toldId, plainBare, plainRefusals, plainHeader}
+
+-- where the id is another, document 01's list says the same of it
+same-list : (id : ℕ) → eqb id 0xF2 ≡ false → plainBare id ≡ isBare id
+same-list id other = rw other (go ((((eqb id 0xBC || eqb id 0xBE) || eqb id 0xBF) || eqb id 0xF0) || eqb id 0xF1) (eqb id 0xF8) (eqb id 0xFF))
+  where
+    go : (a b c : Bool) → (((a || false) || b) || c) ≡ ((a || b) || c)
+    go true b c = refl
+    go false b c = refl
+
+-- bytes are such a packet, or are answered as before
+ways : (s : List ℕ) → Dsmcc s ⊎ (readHeader s ≡ plainHeader s)
+ways s = go (ltb (length s) 6) (eqb (numberAt s 0 3) 1) (eqb (idOf s) 0xF2) refl refl refl
+  where
+    go : (short starts dsmcc : Bool) → ltb (length s) 6 ≡ short → eqb (numberAt s 0 3) 1 ≡ starts → eqb (idOf s) 0xF2 ≡ dsmcc
+        → Dsmcc s ⊎ (readHeader s ≡ plainHeader s)
+    go true starts dsmcc e f g = inr (rw e)
+    go false false dsmcc e f g = inr (rw (e, f))
+    go false true true e f g = inl (record { there = ltb-false (length s) 6 e; start = eqb-true (numberAt s 0 3) 1 f; id = eqb-true (idOf s) 0xF2 g })
+    go false true false e f g = inr (rw (same-list (idOf s) g, g))
+
+-- ---- a number that no row has is never given
+abbrev lacks : ℕ → List Row → Bool
+lacks n rows = all (λ row. not (eqb (row .number) n)) rows
+
+never : (n : ℕ) (rows : List Row) (c : HeaderContents) → lacks n rows ≡ true → judge refused rows (given c) ≡ refused n → ⊥
+never n [] c e = given-apart
+never n (row ∷ rows) c e =
+    let both = both-true (not (eqb (row .number) n)) (lacks n rows) e in
+    go (row .applies) (eqb-false (row .number) n (not-true (eqb (row .number) n) (both .0))) (never n rows c (both .1))
+  where
+    go : (b : Bool) → (row .number ≡ n → ⊥) → (judge refused rows (given c) ≡ refused n → ⊥)
+        → cond b (refused (row .number)) (judge refused rows (given c)) ≡ refused n → ⊥
+    go true differs rest q = differs (refused-same q)
+    go false differs rest q = rest q
+
+-- 38 is none of document 01's numbers
+never-38 : (s : List ℕ) → plainHeader s ≡ refused 38 → ⊥
+never-38 s = never 38 (plainRefusals s) _ (go (plainBare (idOf s)))
+  where
+    stamps : (three two : Bool) → lacks 38 (cond three (stampRefusal s 9 3 ∷ stampRefusal s 14 1 ∷ []) (cond two (stampRefusal s 9 2 ∷ []) [])) ≡ true
+    stamps true two = refl
+    stamps false true = refl
+    stamps false false = refl
+
+    go : (b : Bool) → lacks 38 (cond b [] (optionalRefusals s)) ≡ true
+    go true = refl
+    go false = stamps (eqb (codeOf (secondFlags s)) 3) (eqb (codeOf (secondFlags s)) 2)
+
+-- ---- the theorems
+pub refused-exactly : RefusedExactly
+refused-exactly s = (λ q. ⊎-elim (λ such. such) (λ same. absurd (never-38 s (sym same ∙ q))) (ways s), back)
+  where
+    back : Dsmcc s → readHeader s ≡ refused 38
+    back such = rw (le-ltb (length s) 6 (such .there), eq-eqb (numberAt s 0 3) 1 (such .start), such .id)
+
+pub never-told : NeverTold
+never-told s c e told =
+    let r = given-by (pesRefusals s) (headerContents s) c e in
+    eqb-false (idOf s) 0xF2 (r .0 .1 .1 .1 .0) (sym (go (isBare (idOf s))) ∙ sym (ap toldId (r .1)) ∙ told)
+  where
+    go : (b : Bool) → toldId (cond b (bare (idOf s) (packetLengthOf s)) (optionalOf s)) ≡ idOf s
+    go true = refl
+    go false = refl
+
+pub as-before : AsBefore
+as-before s other = ⊎-elim (λ such. absurd (other such)) (λ same. same) (ways s)
