@@ -5,7 +5,7 @@ use Rattle.ground.proofs.Outcome.{determined-told}
 use Rattle.pes.specs.Header.{toldReading, headerContents, pesRefusals, readHeader}
 use Rattle.pes.specs.Claims.{Claims}
 use Rattle.pes.proofs.Accepted.{accepted}
-use Rattle.pes.proofs.Dsmcc.{refused-exactly, never-told, as-before}
+use Rattle.pes.proofs.Dsmcc.{dsmcc-goes}
 use Rattle.pes.proofs.Told.{madeReading, back-reading}
 
 pub claims : Claims
@@ -14,7 +14,5 @@ claims =
       readsHeader = λ s. determined-told toldReading madeReading back-reading (readHeader s);
       exact = λ s. exact (pesRefusals s) (headerContents s);
       accepted = accepted;
-      dsmccRefused = refused-exactly;
-      neverDsmcc = never-told;
-      asBefore = as-before;
+      dsmccGoes = dsmcc-goes;
     }

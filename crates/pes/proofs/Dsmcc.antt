@@ -1,14 +1,14 @@
 -- The row of 0xF2 is the first that applies to such a packet; past it nothing hangs on whether 0xF2 is among the ids without optional header.
 -- Assumes nothing.
 use mathlib.Core.Path.{_≡_, refl, sym, _∙_, ap}
-use mathlib.Core.Bool.{Bool, true, false, cond, not, _||_}
+use mathlib.Core.Bool.{Bool, true, false, cond, not, _||_, false≢true}
 use mathlib.Core.List.{List, [], _∷_}
-use mathlib.Core.Logic.{_⊎_, inl, inr, ⊎-elim}
+use mathlib.Core.Logic.{_↔_, _⊎_, inl, inr, ⊎-elim}
 use Prim.Native.Nat.{ℕ}
 use borrow.Author.Tests.{le-ltb, eq-eqb, ltb-false, eqb-true, eqb-false, not-true}
 use lib.Dec.{ltb, eqb}
 use lib.ListN.{length}
-use Rattle.ground.specs.Answer.{refused, given}
+use Rattle.ground.specs.Answer.{Answer, refused, given}
 use Rattle.ground.specs.Number.{numberAt}
 use Rattle.ground.specs.Refusal.{Row, judge}
 use Rattle.ground.specs.Walk.{all}
@@ -18,7 +18,7 @@ use Rattle.ground.proofs.Test.{both-true}
 use Rattle.pes.specs.Stream.{isBare}
 use Rattle.pes.specs.Stamps.{stampRefusal}
 use Rattle.pes.specs.Header.{HeaderContents, bare, idOf, packetLengthOf, secondFlags, codeOf, optionalRefusals, optionalOf, headerContents, pesRefusals, readHeader}
-use Rattle.pes.specs.Claims.Dsmcc.{Dsmcc, RefusedExactly, NeverTold, AsBefore, toldId, plainBare, plainRefusals, plainHeader}
+use Rattle.pes.specs.Claims.Dsmcc.{Dsmcc, WithoutDsmcc, DsmccGoes, toldId, plainBare, plainRefusals, plainHeader}
 
 -- where the id is another, document 01's list says the same of it
 same-list : (id : ℕ) → eqb id 0xF2 ≡ false → plainBare id ≡ isBare id
@@ -28,16 +28,16 @@ same-list id other = rw other (go ((((eqb id 0xBC || eqb id 0xBE) || eqb id 0xBF
     go true b c = refl
     go false b c = refl
 
--- bytes are such a packet, or are answered as before
-ways : (s : List ℕ) → Dsmcc s ⊎ (readHeader s ≡ plainHeader s)
+-- bytes are such a packet, or are none and are answered as before
+ways : (s : List ℕ) → Dsmcc s ⊎ ((Dsmcc s → ⊥) × (readHeader s ≡ plainHeader s))
 ways s = go (ltb (length s) 6) (eqb (numberAt s 0 3) 1) (eqb (idOf s) 0xF2) refl refl refl
   where
     go : (short starts dsmcc : Bool) → ltb (length s) 6 ≡ short → eqb (numberAt s 0 3) 1 ≡ starts → eqb (idOf s) 0xF2 ≡ dsmcc
-        → Dsmcc s ⊎ (readHeader s ≡ plainHeader s)
-    go true starts dsmcc e f g = inr (rw e)
-    go false false dsmcc e f g = inr (rw (e, f))
+        → Dsmcc s ⊎ ((Dsmcc s → ⊥) × (readHeader s ≡ plainHeader s))
+    go true starts dsmcc e f g = inr (λ such. false≢true (sym (le-ltb (length s) 6 (such .there)) ∙ e), rw e)
+    go false false dsmcc e f g = inr (λ such. eqb-false (numberAt s 0 3) 1 f (such .start), rw (e, f))
     go false true true e f g = inl (record { there = ltb-false (length s) 6 e; start = eqb-true (numberAt s 0 3) 1 f; id = eqb-true (idOf s) 0xF2 g })
-    go false true false e f g = inr (rw (same-list (idOf s) g, g))
+    go false true false e f g = inr (λ such. eqb-false (idOf s) 0xF2 g (such .id), rw (same-list (idOf s) g, g))
 
 -- ---- a number that no row has is never given
 abbrev lacks : ℕ → List Row → Bool
@@ -67,14 +67,14 @@ never-38 s = never 38 (plainRefusals s) _ (go (plainBare (idOf s)))
     go true = refl
     go false = stamps (eqb (codeOf (secondFlags s)) 3) (eqb (codeOf (secondFlags s)) 2)
 
--- ---- the theorems
-pub refused-exactly : RefusedExactly
-refused-exactly s = (λ q. ⊎-elim (λ such. such) (λ same. absurd (never-38 s (sym same ∙ q))) (ways s), back)
+-- ---- what the ticket asks of a reading
+refused-exactly : (s : List ℕ) → (readHeader s ≡ refused 38) ↔ Dsmcc s
+refused-exactly s = (λ q. ⊎-elim (λ such. such) (λ other. absurd (never-38 s (sym (other .1) ∙ q))) (ways s), back)
   where
     back : Dsmcc s → readHeader s ≡ refused 38
     back such = rw (le-ltb (length s) 6 (such .there), eq-eqb (numberAt s 0 3) 1 (such .start), such .id)
 
-pub never-told : NeverTold
+never-told : (s : List ℕ) (c : HeaderContents) → readHeader s ≡ given c → toldId c ≡ 0xF2 → ⊥
 never-told s c e told =
     let r = given-by (pesRefusals s) (headerContents s) c e in
     eqb-false (idOf s) 0xF2 (r .0 .1 .1 .1 .0) (sym (go (isBare (idOf s))) ∙ sym (ap toldId (r .1)) ∙ told)
@@ -83,5 +83,13 @@ never-told s c e told =
     go true = refl
     go false = refl
 
-pub as-before : AsBefore
-as-before s other = ⊎-elim (λ such. absurd (other such)) (λ same. same) (ways s)
+as-before : (s : List ℕ) → (Dsmcc s → ⊥) → readHeader s ≡ plainHeader s
+as-before s none = ⊎-elim (λ such. absurd (none such)) (λ other. other .1) (ways s)
+
+-- two readings that meet it differ nowhere
+same-reading : (read : List ℕ → Answer HeaderContents) → WithoutDsmcc read → (s : List ℕ) → read s ≡ readHeader s
+same-reading read so s =
+    ⊎-elim (λ such. so .refusedExactly s .1 such ∙ sym (refused-exactly s .1 such)) (λ other. so .asBefore s (other .0) ∙ sym (other .1)) (ways s)
+
+pub dsmcc-goes : DsmccGoes
+dsmcc-goes = record { unlisted = refl; ours = record { refusedExactly = refused-exactly; neverTold = never-told; asBefore = as-before }; only = same-reading }

@@ -8,7 +8,7 @@ use Rattle.ground.specs.Refusal.{Exact}
 use Rattle.pes.specs.Header.{pesRefusals, readHeader}
 use Rattle.pes.specs.Promises.{ReadsHeader}
 use Rattle.pes.specs.Claims.Accepted.{EveryAccepted}
-use Rattle.pes.specs.Claims.Dsmcc.{RefusedExactly, NeverTold, AsBefore}
+use Rattle.pes.specs.Claims.Dsmcc.{DsmccGoes}
 
 pub record Claims : Type 0 where
   -- any two outcomes that the promise admits are equal
@@ -17,9 +17,5 @@ pub record Claims : Type 0 where
   pub exact : (s : List ℕ) → Exact (pesRefusals s) (readHeader s)
   -- what holds of every accepted header of an id with an optional header
   pub accepted : EveryAccepted
-  -- "A PES packet with stream_id 0xF2 is now refused": exactly these are refused 38
-  pub dsmccRefused : RefusedExactly
-  -- and no answer has the id
-  pub neverDsmcc : NeverTold
-  -- "the next is read as usual": all others are answered as document 01 says
-  pub asBefore : AsBefore
+  -- "A PES packet with stream_id 0xF2 is now refused", and nothing else has changed
+  pub dsmccGoes : DsmccGoes

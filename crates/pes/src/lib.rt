@@ -5,7 +5,7 @@ ghost use lib.ListN.{getD};
 ghost use Rattle.ground.specs.Number.{numberAt};
 ghost use Rattle.pes.specs.Header.{toldReading, fieldsSize, passesLength};
 ghost use Rattle.pes.specs.Promises.{ReadsHeader};
-ghost use Rattle.pes.specs.Steps.{readOptional};
+ghost use Rattle.pes.specs.Steps.{readOptional, readAfterStart};
 use crate::stamps::Stamped;
 use crate::stamps::Stamps;
 use octets::number_of_three;
@@ -96,6 +96,20 @@ fn optional(bytes: &[u8], id: u8, size: u16) -> Reading
     }
 }
 
+// What the first six bytes say of an id without optional header, or what the optional header says.
+fn after_start(bytes: &[u8], id: u8, size: u16) -> Reading
+    requires { ⌜ (getD (now bytes) 3 0 ≡ id) × (numberAt (now bytes) 4 2 ≡ size) ⌝ }
+    ensures { λ r. ⌜ toldReading r ≡ readAfterStart (now (bytes .entry)) ⌝ }
+{
+    if stream::is_bare(id) {
+        return Reading::Bare {
+            stream_id: id,
+            packet_length: size,
+        };
+    }
+    optional(bytes, id, size)
+}
+
 // What a PES header says, or the first refusal that applies to it.
 pub fn read(bytes: &[u8]) -> Reading
     ensures { λ r. ⌜ ReadsHeader (now (bytes .entry)) r ⌝ }
@@ -118,11 +132,5 @@ pub fn read(bytes: &[u8]) -> Reading
     if stream::is_endless(id, size) {
         return Reading::Refused(37);
     }
-    if stream::is_bare(id) {
-        return Reading::Bare {
-            stream_id: id,
-            packet_length: size,
-        };
-    }
-    optional(bytes, id, size)
+    after_start(bytes, id, size)
 }

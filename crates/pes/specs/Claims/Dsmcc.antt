@@ -1,7 +1,7 @@
 -- Document 02, ticket 12: "A PES packet with stream_id 0xF2 is now refused; the next is read as usual."
 use mathlib.Core.Path.{_≡_}
-use mathlib.Core.Bool.{Bool, cond, not, _||_}
-use mathlib.Core.List.{List, [], _∷_, _++_}
+use mathlib.Core.Bool.{Bool, false, cond, not, _||_}
+use mathlib.Core.List.{List, [], _∷_}
 use mathlib.Core.Logic.{_↔_}
 use Prim.Native.Nat.{ℕ, _≤_}
 use lib.Dec.{ltb, eqb}
@@ -9,7 +9,7 @@ use lib.ListN.{length}
 use Rattle.ground.specs.Answer.{Answer, refused, given}
 use Rattle.ground.specs.Number.{numberAt}
 use Rattle.ground.specs.Refusal.{Row, judge, _when_}
-use Rattle.pes.specs.Stream.{isEndless}
+use Rattle.pes.specs.Stream.{isBare, isEndless}
 use Rattle.pes.specs.Header.{HeaderContents, full, bare, idOf, packetLengthOf, optionalRefusals, optionalOf, readHeader}
 
 -- such a packet: its first six bytes are there, it starts as a PES packet does, and has the id
@@ -18,26 +18,18 @@ pub record Dsmcc (s : List ℕ) : Type 0 where
   pub start : numberAt s 0 3 ≡ 1
   pub id : idOf s ≡ 0xF2
 
--- "Refusals: 38, right after 32": these and no others
-abbrev pub RefusedExactly : Type 0
-RefusedExactly = (s : List ℕ) → (readHeader s ≡ refused 38) ↔ Dsmcc s
-
 -- the stream_id of an answer
 abbrev pub toldId : HeaderContents → ℕ
 toldId (full h) = h .streamId
 toldId (bare id packetLength) = id
 
--- no answer has the id
-abbrev pub NeverTold : Type 0
-NeverTold = (s : List ℕ) (c : HeaderContents) → readHeader s ≡ given c → toldId c ≡ 0xF2 → ⊥
-
--- ---- and nothing else has changed
--- document 01: "These stream_ids have no optional header: 0xBC, 0xBE, 0xBF, 0xF0, 0xF1, 0xF2, 0xF8, 0xFF"
+-- ---- a header as document 01 has it, before the ticket
+-- "These stream_ids have no optional header: 0xBC, 0xBE, 0xBF, 0xF0, 0xF1, 0xF2, 0xF8, 0xFF"
 abbrev pub plainBare : ℕ → Bool
 plainBare id =
     ((((((eqb id 0xBC || eqb id 0xBE) || eqb id 0xBF) || eqb id 0xF0) || eqb id 0xF1) || eqb id 0xF2) || eqb id 0xF8) || eqb id 0xFF
 
--- document 01's own table: "30 (under 6 bytes), 31, 32, 37", and then the rows of an optional header
+-- "30 (under 6 bytes), 31, 32, 37", and then the rows of an optional header
 abbrev pub plainRefusals : List ℕ → List Row
 plainRefusals s =
     (30 when ltb (length s) 6)
@@ -46,10 +38,22 @@ plainRefusals s =
     ∷ (37 when isEndless (idOf s) (packetLengthOf s))
     ∷ cond (plainBare (idOf s)) [] (optionalRefusals s)
 
--- a PES header read as document 01 says
+-- the reading
 abbrev pub plainHeader : List ℕ → Answer HeaderContents
 plainHeader s = judge refused (plainRefusals s) (given (cond (plainBare (idOf s)) (bare (idOf s) (packetLengthOf s)) (optionalOf s)))
 
--- whatever is no such packet is answered as document 01 says
-abbrev pub AsBefore : Type 0
-AsBefore = (s : List ℕ) → (Dsmcc s → ⊥) → readHeader s ≡ plainHeader s
+-- ---- what the ticket asks of a reading
+pub record WithoutDsmcc (read : List ℕ → Answer HeaderContents) : Type 0 where
+  -- "Refusals: 38": such packets are refused so, and no others
+  pub refusedExactly : (s : List ℕ) → (read s ≡ refused 38) ↔ Dsmcc s
+  -- no answer has the id
+  pub neverTold : (s : List ℕ) (c : HeaderContents) → read s ≡ given c → toldId c ≡ 0xF2 → ⊥
+  -- whatever is no such packet is answered as document 01 says
+  pub asBefore : (s : List ℕ) → (Dsmcc s → ⊥) → read s ≡ plainHeader s
+
+-- the call's reading is such a one, and there is no other
+pub record DsmccGoes : Type 0 where
+  -- "Demand 2's PES table loses that row"
+  pub unlisted : isBare 0xF2 ≡ false
+  pub ours : WithoutDsmcc readHeader
+  pub only : (read : List ℕ → Answer HeaderContents) → WithoutDsmcc read → (s : List ℕ) → read s ≡ readHeader s
