@@ -10,11 +10,11 @@ use lib.Dec.{ltb, eqb}
 use lib.ListN.{length}
 use Rattle.ground.specs.Answer.{Answer, refused, given}
 use Rattle.ground.specs.Number.{numberAt}
-use Rattle.ground.specs.Refusal.{Row, judge}
+use Rattle.ground.specs.Refusal.{Row, judge, _when_}
 use Rattle.ground.specs.Walk.{all}
 use Rattle.ground.proofs.Answer.{given-apart, refused-same}
-use Rattle.ground.proofs.Judged.{given-by}
-use Rattle.ground.proofs.Test.{both-true}
+use Rattle.ground.proofs.Judged.{given-by, judge-ind}
+use Rattle.ground.proofs.Walk.{all-at, every-of}
 use Rattle.pes.specs.Stream.{isBare}
 use Rattle.pes.specs.Stamps.{stampRefusal}
 use Rattle.pes.specs.Header.{HeaderContents, bare, idOf, packetLengthOf, secondFlags, codeOf, optionalRefusals, optionalOf, headerContents, pesRefusals, readHeader}
@@ -34,36 +34,31 @@ ways s = go (ltb (length s) 6) (eqb (numberAt s 0 3) 1) (eqb (idOf s) 0xF2) refl
   where
     go : (short starts dsmcc : Bool) → ltb (length s) 6 ≡ short → eqb (numberAt s 0 3) 1 ≡ starts → eqb (idOf s) 0xF2 ≡ dsmcc
         → Dsmcc s ⊎ ((Dsmcc s → ⊥) × (readHeader s ≡ plainHeader s))
-    go true starts dsmcc e f g = inr (λ such. false≢true (sym (le-ltb (length s) 6 (such .there)) ∙ e), rw e)
-    go false false dsmcc e f g = inr (λ such. eqb-false (numberAt s 0 3) 1 f (such .start), rw (e, f))
-    go false true true e f g = inl (record { there = ltb-false (length s) 6 e; start = eqb-true (numberAt s 0 3) 1 f; id = eqb-true (idOf s) 0xF2 g })
+    go true starts dsmcc e f g = inr (λ such. false≢true (sym (le-ltb (length s) 6 (such .sixBytes)) ∙ e), rw e)
+    go false false dsmcc e f g = inr (λ such. eqb-false (numberAt s 0 3) 1 f (such .startCode), rw (e, f))
+    go false true true e f g = inl (record { sixBytes = ltb-false (length s) 6 e; startCode = eqb-true (numberAt s 0 3) 1 f; id = eqb-true (idOf s) 0xF2 g })
     go false true false e f g = inr (λ such. eqb-false (idOf s) 0xF2 g (such .id), rw (same-list (idOf s) g, g))
 
 -- ---- a number that no row has is never given
-abbrev lacks : ℕ → List Row → Bool
-lacks n rows = all (λ row. not (eqb (row .number) n)) rows
+abbrev others : ℕ → List Row → Bool
+others n rows = all (λ row. not (eqb (row .number) n)) rows
 
-never : (n : ℕ) (rows : List Row) (c : HeaderContents) → lacks n rows ≡ true → judge refused rows (given c) ≡ refused n → ⊥
-never n [] c e = given-apart
-never n (row ∷ rows) c e =
-    let both = both-true (not (eqb (row .number) n)) (lacks n rows) e in
-    go (row .applies) (eqb-false (row .number) n (not-true (eqb (row .number) n) (both .0))) (never n rows c (both .1))
-  where
-    go : (b : Bool) → (row .number ≡ n → ⊥) → (judge refused rows (given c) ≡ refused n → ⊥)
-        → cond b (refused (row .number)) (judge refused rows (given c)) ≡ refused n → ⊥
-    go true differs rest q = differs (refused-same q)
-    go false differs rest q = rest q
+never : (n : ℕ) (rows : List Row) (c : HeaderContents) → others n rows ≡ true → judge refused rows (given c) ≡ refused n → ⊥
+never n rows c e =
+    judge-ind refused (λ a. a ≡ refused n → ⊥) rows (given c)
+    (every-of _ rows (n when false) (λ i h applies q. eqb-false _ n (not-true _ (all-at _ rows (n when false) e i h)) (refused-same q)))
+    (λ silent. given-apart)
 
 -- 38 is none of document 01's numbers
 never-38 : (s : List ℕ) → plainHeader s ≡ refused 38 → ⊥
 never-38 s = never 38 (plainRefusals s) _ (go (plainBare (idOf s)))
   where
-    stamps : (three two : Bool) → lacks 38 (cond three (stampRefusal s 9 3 ∷ stampRefusal s 14 1 ∷ []) (cond two (stampRefusal s 9 2 ∷ []) [])) ≡ true
+    stamps : (three two : Bool) → others 38 (cond three (stampRefusal s 9 3 ∷ stampRefusal s 14 1 ∷ []) (cond two (stampRefusal s 9 2 ∷ []) [])) ≡ true
     stamps true two = refl
     stamps false true = refl
     stamps false false = refl
 
-    go : (b : Bool) → lacks 38 (cond b [] (optionalRefusals s)) ≡ true
+    go : (b : Bool) → others 38 (cond b [] (optionalRefusals s)) ≡ true
     go true = refl
     go false = stamps (eqb (codeOf (secondFlags s)) 3) (eqb (codeOf (secondFlags s)) 2)
 
@@ -72,7 +67,7 @@ refused-exactly : (s : List ℕ) → (readHeader s ≡ refused 38) ↔ Dsmcc s
 refused-exactly s = (λ q. ⊎-elim (λ such. such) (λ other. absurd (never-38 s (sym (other .1) ∙ q))) (ways s), back)
   where
     back : Dsmcc s → readHeader s ≡ refused 38
-    back such = rw (le-ltb (length s) 6 (such .there), eq-eqb (numberAt s 0 3) 1 (such .start), such .id)
+    back such = rw (le-ltb (length s) 6 (such .sixBytes), eq-eqb (numberAt s 0 3) 1 (such .startCode), such .id)
 
 never-told : (s : List ℕ) (c : HeaderContents) → readHeader s ≡ given c → toldId c ≡ 0xF2 → ⊥
 never-told s c e told =
@@ -92,4 +87,4 @@ same-reading read so s =
     ⊎-elim (λ such. so .refusedExactly s .1 such ∙ sym (refused-exactly s .1 such)) (λ other. so .asBefore s (other .0) ∙ sym (other .1)) (ways s)
 
 pub dsmcc-goes : DsmccGoes
-dsmcc-goes = record { unlisted = refl; ours = record { refusedExactly = refused-exactly; neverTold = never-told; asBefore = as-before }; only = same-reading }
+dsmcc-goes = record { notBare = refl; ours = record { refusedExactly = refused-exactly; neverTold = never-told; asBefore = as-before }; only = same-reading }

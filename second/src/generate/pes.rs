@@ -29,7 +29,7 @@ pub fn generate(random: &mut Random, script: &mut Script) {
         }
         1 | 2 => {
             let id = random.pick(&BARE);
-            bare(random, id)
+            start(random, id)
         }
         3 => dsmcc(random),
         _ => {
@@ -41,7 +41,8 @@ pub fn generate(random: &mut Random, script: &mut Script) {
     script.call_with("pes", &bytes);
 }
 
-fn bare(random: &mut Random, id: u8) -> Vec<u8> {
+/// The first six bytes, some behind them or none, and at times only five.
+fn start(random: &mut Random, id: u8) -> Vec<u8> {
     let mut bytes = vec![0, 0, 1, id];
     let length = random.pick(&[0, 1, 255, 256, 65_535]) as u16;
     bytes.extend(length.to_be_bytes());
@@ -56,7 +57,7 @@ fn bare(random: &mut Random, id: u8) -> Vec<u8> {
 /// The id that is refused, with nothing behind its length, with any bytes or with such as another id would have.
 fn dsmcc(random: &mut Random) -> Vec<u8> {
     if random.one_in(3) {
-        return bare(random, DSMCC);
+        return start(random, DSMCC);
     }
     let mut plan = plan(random);
     plan.id = DSMCC;

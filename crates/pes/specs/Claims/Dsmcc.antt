@@ -12,10 +12,10 @@ use Rattle.ground.specs.Refusal.{Row, judge, _when_}
 use Rattle.pes.specs.Stream.{isBare, isEndless}
 use Rattle.pes.specs.Header.{HeaderContents, full, bare, idOf, packetLengthOf, optionalRefusals, optionalOf, readHeader}
 
--- such a packet: its first six bytes are there, it starts as a PES packet does, and has the id
+-- such a packet: its first six bytes are there, they start with 00 00 01, and it has the id
 pub record Dsmcc (s : List ℕ) : Type 0 where
-  pub there : 6 ≤ length s
-  pub start : numberAt s 0 3 ≡ 1
+  pub sixBytes : 6 ≤ length s
+  pub startCode : numberAt s 0 3 ≡ 1
   pub id : idOf s ≡ 0xF2
 
 -- the stream_id of an answer
@@ -54,6 +54,6 @@ pub record WithoutDsmcc (read : List ℕ → Answer HeaderContents) : Type 0 whe
 -- the call's reading is such a one, and there is no other
 pub record DsmccGoes : Type 0 where
   -- "Demand 2's PES table loses that row"
-  pub unlisted : isBare 0xF2 ≡ false
+  pub notBare : isBare 0xF2 ≡ false
   pub ours : WithoutDsmcc readHeader
   pub only : (read : List ℕ → Answer HeaderContents) → WithoutDsmcc read → (s : List ℕ) → read s ≡ readHeader s
