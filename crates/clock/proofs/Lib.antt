@@ -1,6 +1,9 @@
 pub mod Modulus
 pub mod Turn
 pub mod Signed
+pub mod Less
+pub mod SignedSum
+pub mod ClockSums
 pub mod Field
 pub mod Outcome
 pub mod Refusal
@@ -8,3 +11,4 @@ pub mod Either
 pub mod RoundTrip
 pub mod Claims
 pub mod Stars
+pub mod Examples

@@ -7,6 +7,18 @@ use native.Mathlib.Omega.{arith}
 use Rattle.clock.specs.Modulus.{minusMod}
 use Rattle.clock.specs.Claims.Modulus.{Around, Wrapped}
 
+-- from a to a is a whole turn, or none
+pub minus-self : (m a : ℕ) → a ≤ m → minusMod m a a ≡ 0
+minus-self m a h = ap (λ (x : ℕ). x % m) (omega arith) ∙ mod-self m
+
+-- from a to b and then from b to c
+pub minus-sum : (m a b c : ℕ) → b ≤ m → (minusMod m b a + minusMod m c b) % m ≡ minusMod m c a
+minus-sum m a b c h =
+    mod-add-mod (b + (m - a)) m (minusMod m c b)
+    ∙ add-mod-mod (b + (m - a)) (c + (m - b)) m
+    ∙ ap (λ (x : ℕ). x % m) (omega arith)
+    ∙ add-mod-right (c + (m - a)) m
+
 pub around : (m : ℕ) → Around m
 around m =
     record {
@@ -19,13 +31,8 @@ around m =
           ∙ sym (mod-add-mod (r + b) m (m - b))
           ∙ ap (λ (x : ℕ). (x + (m - b)) % m) e
           ∙ mod-add-mod a m (m - b);
-      self = λ a h. ap (λ (x : ℕ). x % m) (omega arith) ∙ mod-self m;
-      whole = λ a b h l.
-          mod-add-mod (a + (m - b)) m (minusMod m b a)
-          ∙ add-mod-mod (a + (m - b)) (b + (m - a)) m
-          ∙ ap (λ (x : ℕ). x % m) (omega arith)
-          ∙ add-mod-right m m
-          ∙ mod-self m;
+      self = minus-self m;
+      whole = λ a b h l. minus-sum m b a b h ∙ minus-self m b l;
     }
 
 -- without a turn, and with one

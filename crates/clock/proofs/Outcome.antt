@@ -5,11 +5,12 @@ use mathlib.Core.List.{List}
 use Prim.Native.Nat.{ℕ}
 use lib.IntN.{ℤ}
 use Rattle.ground.specs.Answer.{Answer, refused, given}
-use Rattle.ground.proofs.Outcome.{determined-told}
+use Rattle.ground.proofs.Outcome.{determined-told, stated}
 use Rattle.clock.specs.Written.{Wrote, wrote}
 use Rattle.clock.specs.Stamp.{Prefixed, toldStamp, readStamp, toldAnyStamp, readAnyStamp, writeStamp}
 use Rattle.clock.specs.Reference.{toldReference, readReference, writeReference}
 use Rattle.clock.specs.Difference.{toldSigned, toldForward, stampDifference, referenceForward}
+use Rattle.clock.specs.Sums.{ClockSums}
 use Rattle.clock.specs.Claims.Outcome.{Outcomes}
 use Rattle.clock.specs.declared.Written.{Written}
 use Rattle.clock.specs.declared.Written.the-variants as written
@@ -92,4 +93,5 @@ outcomes =
       readsReference = λ s. determined-told toldReference madeReference back-reference (readReference s);
       writesReference = λ s v. determined-told toldWrote madeWrote back-wrote (writeReference s v);
       tellsAhead = λ a b. determined-told toldForward madeForward back-forward (referenceForward a b);
+      clockSums = stated ClockSums;
     }

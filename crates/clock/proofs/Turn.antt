@@ -11,7 +11,7 @@ use Rattle.clock.specs.Claims.Turn.{InTurn, Turns}
 use Rattle.clock.proofs.Modulus.{around, wrapped}
 
 -- in range is at most the turn
-in-turn : (turn : ℕ) → InTurn turn
+pub in-turn : (turn : ℕ) → InTurn turn
 in-turn turn =
     record {
       back = λ a b h l. around turn .back a b (omega arith) ∙ mod-eq-of-lt h;

@@ -4,6 +4,7 @@ pub mod Written
 pub mod Stamp
 pub mod Reference
 pub mod Difference
+pub mod Sums
 pub mod Promises
 pub mod Stars
 pub mod Claims

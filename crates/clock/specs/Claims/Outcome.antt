@@ -1,8 +1,9 @@
 -- Document 01, "What the proofs have to say": "any two outcomes it admits are shown equal", of each public call's promise.
 use mathlib.Core.List.{List}
 use Prim.Native.Nat.{ℕ}
-use Rattle.ground.specs.Outcome.{Determined}
+use Rattle.ground.specs.Outcome.{Determined, Stated}
 use Rattle.clock.specs.Promises.{ReadsStamp, ReadsAnyStamp, WritesStamp, TellsApart, ReadsReference, WritesReference, TellsAhead}
+use Rattle.clock.specs.Sums.{ClockSums}
 
 pub record Outcomes : Type 0 where
   -- the answer to reading a stamp
@@ -19,3 +20,5 @@ pub record Outcomes : Type 0 where
   pub writesReference : (s : List ℕ) (v : ℕ) → Determined (WritesReference s v)
   -- the forward difference of two clock references
   pub tellsAhead : (a b : ℕ) → Determined (TellsAhead a b)
+  -- the function that states how intervals add up
+  pub clockSums : Determined (Stated ClockSums)
