@@ -14,6 +14,7 @@ mod losses;
 mod recordings;
 mod repeats;
 mod sound;
+mod sums;
 mod table_examples;
 mod time_examples;
 

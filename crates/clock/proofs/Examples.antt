@@ -40,9 +40,11 @@ pub exchanged : (stampDifference 4294967296 0 ≡ given (negℤ (pos 4294967296)
     × (stampDifference 8589934591 0 ≡ given (negℤ (pos 1)))
 exchanged = (refl, refl, refl, refl, refl, refl)
 
--- two differences whose sum is a turn too far
+-- two differences whose sum is a turn too far, either way
 pub brought-back : (stampDifference 3000000000 0 ≡ given (pos 3000000000))
     × (stampDifference 6000000000 3000000000 ≡ given (pos 3000000000))
     × (stampDifference 6000000000 0 ≡ given (negℤ (pos 2589934592)))
+    × (stampDifference 0 6000000000 ≡ given (pos 2589934592))
     × (broughtBack (2 ^ 32) (pos 3000000000 +ℤ pos 3000000000) ≡ negℤ (pos 2589934592))
-brought-back = (refl, refl, refl, refl)
+    × (broughtBack (2 ^ 32) (negℤ (pos 3000000000) +ℤ negℤ (pos 3000000000)) ≡ pos 2589934592)
+brought-back = (refl, refl, refl, refl, refl, refl)

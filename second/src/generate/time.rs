@@ -7,7 +7,7 @@ use super::script::{field, Script};
 use crate::numbers_of_the_house::{CLOCK_TURN, STAMP_TURN};
 use crate::time::write_stamp;
 
-/// One line of each word, so that all have the same share.
+/// One line of each word, and of each difference the four of a triple.
 pub fn generate(random: &mut Random, script: &mut Script) {
     let prefix = prefix(random);
     let stamp = stamp_bytes(random, prefix);
@@ -24,12 +24,25 @@ pub fn generate(random: &mut Random, script: &mut Script) {
     script.call_with("clock", &clock);
     let value = clock_value(random);
     script.call_with(&format!("setclock {}", value), &lent);
-    let (first, second) = (stamp_value(random), stamp_value(random));
-    let second = near(random, first, second);
-    script.call(&format!("apart {} {}", first, second));
-    let (first, second) = (clock_value(random), clock_value(random));
-    let second = near(random, first, second);
-    script.call(&format!("forward {} {}", first, second));
+    let stamps = triple(random, stamp_value, STAMP_TURN);
+    differences(script, "apart", stamps);
+    let clocks = triple(random, clock_value, CLOCK_TURN);
+    differences(script, "forward", clocks);
+}
+
+/// Three values, each of the later two anywhere or near the one before it.
+fn triple(random: &mut Random, value: fn(&mut Random) -> u64, turn: u64) -> [u64; 3] {
+    let first = value(random);
+    let second = near(random, first, value, turn);
+    let third = near(random, second, value, turn);
+    [first, second, third]
+}
+
+/// From the first to the second, from that to the third, both in one, and the first two exchanged.
+fn differences(script: &mut Script, word: &str, [a, b, c]: [u64; 3]) {
+    for (to, from) in [(b, a), (c, b), (c, a), (a, b)] {
+        script.call(&format!("{} {} {}", word, to, from));
+    }
 }
 
 fn prefix(random: &mut Random) -> u64 {
@@ -117,13 +130,13 @@ fn clock_value(random: &mut Random) -> u64 {
     }
 }
 
-/// The second value, or one close to the first or half a turn away from it.
-fn near(random: &mut Random, first: u64, second: u64) -> u64 {
+/// A value, or one close to the first or half a turn away from it.
+fn near(random: &mut Random, first: u64, value: fn(&mut Random) -> u64, turn: u64) -> u64 {
     let step = random.below(3) as u64;
     match random.below(6) {
         0 => first.saturating_add(step),
         1 => first.saturating_sub(step),
-        2 => first.wrapping_add(STAMP_TURN / 2 + step) % STAMP_TURN,
-        _ => second,
+        2 => first.wrapping_add(turn / 2 + step) % turn,
+        _ => value(random),
     }
 }

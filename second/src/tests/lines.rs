@@ -63,6 +63,14 @@ fn request_12_as_a_script() {
     );
 }
 
+#[test]
+fn request_13_as_a_script() {
+    answered(
+        include_str!("../../examples/request-13.script"),
+        include_str!("../../examples/request-13.expected"),
+    );
+}
+
 const MALFORMED: [&str; 52] = [
     "",
     " ",
