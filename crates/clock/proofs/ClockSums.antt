@@ -49,49 +49,47 @@ module _ {A : Type 0} (turn : ℕ) (way : ℕ → ℕ → A) where
   told-in-range a b = (λ e. let found = was-given a b (e .0) (e .1) in (found .0, found .1), λ r. (way a b, is-given a b (r .0) (r .1)))
 
 -- ---- forward
-module _ (turn : ℕ) where
-  forward-sums : ForwardSums turn (difference turn (minusMod turn))
-  forward-sums =
-      record {
-        forwardTold = told-in-range turn (minusMod turn);
-        forwardLeads = λ a b x e.
-            let found = was-given turn (minusMod turn) a b x e in
-            rw (found .2) (around turn .below a b (omega arith), in-turn turn .back a b (found .0) (found .1));
-        forwardSum = λ a b c x y e f.
-            let first = was-given turn (minusMod turn) b a x e in
-            let second = was-given turn (minusMod turn) c b y f in
-            rw (first .2, second .2, minus-sum turn a b c (omega arith)) (is-given turn (minusMod turn) c a (second .0) (first .1));
-        forwardSelf = λ a h. is-given turn (minusMod turn) a a h h ∙ ap given (in-turn turn .self a h);
-      }
+forward-sums : (turn : ℕ) → ForwardSums turn (difference turn (minusMod turn))
+forward-sums turn =
+    record {
+      forwardTold = told-in-range turn (minusMod turn);
+      forwardLeads = λ a b x e.
+          let found = was-given turn (minusMod turn) a b x e in
+          rw (found .2) (around turn .below a b (omega arith), in-turn turn .back a b (found .0) (found .1));
+      forwardSum = λ a b c x y e f.
+          let first = was-given turn (minusMod turn) b a x e in
+          let second = was-given turn (minusMod turn) c b y f in
+          rw (first .2, second .2, minus-sum turn a b c (omega arith)) (is-given turn (minusMod turn) c a (second .0) (first .1));
+      forwardSelf = λ a h. is-given turn (minusMod turn) a a h h ∙ ap given (in-turn turn .self a h);
+    }
 
 -- ---- signed
-module _ (half : ℕ) where
-  signed-sums : SignedSums half (difference (2 * half) (signedMod half))
-  signed-sums =
-      record {
-        apartTold = told-in-range (2 * half) (signedMod half);
-        apartWay = λ a b d e.
-            let found = was-given (2 * half) (signedMod half) a b d e in
-            found .2 ∙ signed-way half (omega arith) a b;
-        apartLies = λ a b d e.
-            let found = was-given (2 * half) (signedMod half) a b d e in
-            rw (found .2) (signed-within half (omega arith) a b);
-        apartSum = λ a b c x y e f.
-            let first = was-given (2 * half) (signedMod half) b a x e in
-            let second = was-given (2 * half) (signedMod half) c b y f in
-            rw (first .2, second .2)
-            (is-given (2 * half) (signedMod half) c a (second .0) (first .1) ∙ ap given (signed-sum half (omega arith) a b c (omega arith)));
-        apartSelf = λ a h. is-given (2 * half) (signedMod half) a a h h ∙ ap given (signed-self half (omega arith) a (omega arith));
-        apartExchanged = λ a b d e other.
-            let found = was-given (2 * half) (signedMod half) a b d e in
-            rw (found .2)
-            (is-given (2 * half) (signedMod half) b a (found .1) (found .0)
-            ∙ ap given (signed-exchanged half (omega arith) a b (omega arith) (omega arith) (λ f. other (found .2 ∙ f))));
-        apartStays = λ a b d e f.
-            let found = was-given (2 * half) (signedMod half) a b d e in
-            is-given (2 * half) (signedMod half) b a (found .1) (found .0)
-            ∙ ap given (signed-stays half (omega arith) a b (omega arith) (omega arith) (sym (found .2) ∙ f) ∙ sym f);
-      }
+signed-sums : (half : ℕ) → SignedSums half (difference (2 * half) (signedMod half))
+signed-sums half =
+    record {
+      apartTold = told-in-range (2 * half) (signedMod half);
+      apartWay = λ a b d e.
+          let found = was-given (2 * half) (signedMod half) a b d e in
+          found .2 ∙ signed-way half (omega arith) a b;
+      apartLies = λ a b d e.
+          let found = was-given (2 * half) (signedMod half) a b d e in
+          rw (found .2) (signed-within half (omega arith) a b);
+      apartSum = λ a b c x y e f.
+          let first = was-given (2 * half) (signedMod half) b a x e in
+          let second = was-given (2 * half) (signedMod half) c b y f in
+          rw (first .2, second .2)
+          (is-given (2 * half) (signedMod half) c a (second .0) (first .1) ∙ ap given (signed-sum half (omega arith) a b c (omega arith)));
+      apartSelf = λ a h. is-given (2 * half) (signedMod half) a a h h ∙ ap given (signed-self half (omega arith) a (omega arith));
+      apartExchanged = λ a b d e other.
+          let found = was-given (2 * half) (signedMod half) a b d e in
+          rw (found .2)
+          (is-given (2 * half) (signedMod half) b a (found .1) (found .0)
+          ∙ ap given (signed-exchanged half (omega arith) a b (omega arith) (omega arith) (λ f. other (found .2 ∙ f))));
+      apartStays = λ a b d e f.
+          let found = was-given (2 * half) (signedMod half) a b d e in
+          is-given (2 * half) (signedMod half) b a (found .1) (found .0)
+          ∙ ap given (signed-stays half (omega arith) a b (omega arith) (omega arith) (sym (found .2) ∙ f) ∙ sym f);
+    }
 
 -- ---- nothing else would do
 -- a remainder that leaves the last value alone and takes a whole turn to 0 is by the turn
