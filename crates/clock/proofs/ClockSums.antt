@@ -11,25 +11,17 @@ use lib.IntN.{ℤ, pos, negℤ, pos-ne-negsuc, ℤ-discrete}
 use borrow.Author.Tests.{ltb-true, ltb-false, lt-leb, leb-false}
 use Rattle.ground.specs.Answer.{Answer, refused, given}
 use Rattle.ground.specs.Refusal.{Row, judge, _when_}
-use Rattle.ground.specs.Walk.{Every}
+use Rattle.ground.specs.Walk.{total}
 use Rattle.ground.proofs.Answer.{given-same}
 use Rattle.ground.proofs.Judged.{given-by}
 use Rattle.ground.proofs.Refusal.{accepted}
 use Rattle.clock.specs.Modulus.{minusMod}
 use Rattle.clock.specs.Range.{stampTurn, referenceTurn}
 use Rattle.clock.specs.Difference.{stampDifference}
-use Rattle.clock.specs.Sums.{signedMod, signedWay, waysAlong, lastAlong, ToldInRange, TellSame, ForwardSums, SignedSums, ClockSums}
+use Rattle.clock.specs.Sums.{signedMod, signedWay, ToldInRange, TellSame, ForwardSums, Step, lastAlong, StepsAddUp, SignedSums, ClockSums}
 use Rattle.clock.proofs.Modulus.{around, minus-self, minus-sum}
 use Rattle.clock.proofs.Turn.{in-turn}
 use Rattle.clock.proofs.SignedSum.{signed-way, signed-within, signed-self, signed-sum, signed-exchanged, signed-stays}
-
--- ---- any number of steps: the rest leads from the second value to the last
-along : (m a : ℕ) (later : List ℕ) → Every (λ (b : ℕ). b ≤ m) (a ∷ later) → waysAlong m a later % m ≡ minusMod m (lastAlong a later) a
-along m a [] h = zero-mod m ∙ sym (minus-self m a (h .0))
-along m a (b ∷ later) h =
-    sym (add-mod-mod (minusMod m b a) (waysAlong m b later) m)
-    ∙ ap (λ (x : ℕ). (minusMod m b a + x) % m) (along m b later (h .1))
-    ∙ minus-sum m a b (lastAlong b later) (h .1 .0)
 
 -- ---- a difference by the table of both calls
 module _ {A : Type 0} (turn : ℕ) (way : ℕ → ℕ → A) where
@@ -62,6 +54,15 @@ forward-sums turn =
           rw (first .2, second .2, minus-sum turn a b c (omega arith)) (is-given turn (minusMod turn) c a (second .0) (first .1));
       forwardSelf = λ a h. is-given turn (minusMod turn) a a h h ∙ ap given (in-turn turn .self a h);
     }
+
+-- any number of steps: the first and then the others are two
+steps-add-up : (turn : ℕ) (forward : ℕ → ℕ → Answer ℕ) → ForwardSums turn forward → StepsAddUp turn forward
+steps-add-up turn forward sums a [] h told = sums .forwardSelf a h ∙ ap given (sym (zero-mod turn))
+steps-add-up turn forward sums a (step ∷ later) h told =
+    let range = sums .forwardTold (step .to) a .0 (step .way, told .0) in
+    let rest = steps-add-up turn forward sums (step .to) later (range .0) (told .1) in
+    sums .forwardSum a (step .to) (lastAlong (step .to) later) (step .way) _ (told .0) rest
+    ∙ ap given (add-mod-mod (step .way) (total (λ (s : Step). s .way) later) turn)
 
 -- ---- signed
 signed-sums : (half : ℕ) → SignedSums half (difference (2 * half) (signedMod half))
@@ -138,12 +139,12 @@ clock-sums =
     record {
       leads = λ m. around m .back;
       sum = minus-sum;
-      along = along;
       self = minus-self;
       signed = signed-way;
       exchanged = λ half a b h l. signed-exchanged half (omega arith) a b (omega arith) (omega arith);
       stays = λ half a b h l. signed-stays half (omega arith) a b (omega arith) (omega arith);
       references = forward-sums referenceTurn;
+      along = steps-add-up;
       stampSum = λ a b c h. minus-sum stampTurn a b c (le-of-lt h);
       stampSelf = in-turn stampTurn .self;
       stamps = signed-sums (2 ^ 32);

@@ -1,13 +1,14 @@
 -- Request 13's examples, by computation.
 -- Assumes nothing.
 use mathlib.Core.Path.{_≡_, refl}
-use mathlib.Core.List.{[], _∷_}
-use Prim.Native.Nat.{_+_, _%_, _^_}
+use mathlib.Core.List.{List, [], _∷_}
+use Prim.Native.Nat.{_+_, _*_, _%_, _^_}
 use lib.IntN.{pos, negℤ, _+ℤ_}
 use Rattle.ground.specs.Answer.{given}
+use Rattle.ground.specs.Walk.{total}
 use Rattle.clock.specs.Range.{referenceTurn}
 use Rattle.clock.specs.Difference.{stampDifference, referenceForward}
-use Rattle.clock.specs.Sums.{broughtBack, waysAlong}
+use Rattle.clock.specs.Sums.{Step, ToldAlong, broughtBack}
 
 -- from the last reference to 1 and on to 27,000,000, in two steps and in one
 pub past-turn : (referenceForward 1 2576980377599 ≡ given 2)
@@ -22,10 +23,16 @@ pub over-turn : (referenceForward 2000000000000 0 ≡ given 2000000000000)
     × ((2000000000000 + 1500000000000) % referenceTurn ≡ 923019622400)
 over-turn = (refl, refl, refl, refl)
 
--- the same ways along a list, and one more back to its start: two turns, which the remainder does not see
-pub along-turns : (waysAlong referenceTurn 0 (2000000000000 ∷ 923019622400 ∷ 0 ∷ []) ≡ referenceTurn + referenceTurn)
-    × (waysAlong referenceTurn 0 (2000000000000 ∷ 923019622400 ∷ 0 ∷ []) % referenceTurn ≡ 0)
-along-turns = (refl, refl)
+-- the same ways, and one more back to the first value: two turns, which the remainder does not see
+abbrev pub steps : List Step
+steps =
+    record { to = 2000000000000; way = 2000000000000 }
+    ∷ record { to = 923019622400; way = 1500000000000 }
+    ∷ record { to = 0; way = 1653960755200 }
+    ∷ []
+
+pub along-turns : ToldAlong referenceForward 0 steps × (total (λ (step : Step). step .way) steps ≡ 2 * referenceTurn) × (2 * referenceTurn % referenceTurn ≡ 0)
+along-turns = ((refl, (refl, (refl, tt))), refl, refl)
 
 -- to itself
 pub to-itself : (referenceForward 5 5 ≡ given 0) × (stampDifference 7 7 ≡ given (pos 0))

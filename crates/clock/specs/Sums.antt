@@ -9,21 +9,10 @@ use lib.Dec.{ltb}
 use lib.IntN.{ℤ, pos, negℤ, _+ℤ_, _-ℤ_}
 use lib.Signed.{leZ, ltZ}
 use Rattle.ground.specs.Answer.{Answer, given}
-use Rattle.ground.specs.Walk.{Every}
+use Rattle.ground.specs.Walk.{total}
 use Rattle.clock.specs.Modulus.{minusMod}
 use Rattle.clock.specs.Range.{stampTurn, referenceTurn}
 use Rattle.clock.specs.Difference.{stampDifference, referenceForward}
-
--- ---- ways forward, for any modulus
--- the ways from a to the first of some values, from that to the next and so on, added up
-abbrev pub waysAlong : ℕ → ℕ → List ℕ → ℕ
-waysAlong m a [] = 0
-waysAlong m a (b ∷ later) = minusMod m b a + waysAlong m b later
-
--- the value that they lead to
-abbrev pub lastAlong : ℕ → List ℕ → ℕ
-lastAlong a [] = a
-lastAlong a (b ∷ later) = lastAlong b later
 
 -- ---- signed differences, for any half turn
 -- the signed difference a − b, as document 01 has it of stamps: ((a − b + half) mod 2·half) − half
@@ -62,6 +51,26 @@ pub record ForwardSums (turn : ℕ) (forward : ℕ → ℕ → Answer ℕ) : Typ
   -- "forward from a to a is 0"
   pub forwardSelf : (a : ℕ) → a < turn → forward a a ≡ given 0
 
+-- a step of several: the value that it leads to, and the way to it that was told
+pub record Step : Type 0 where
+  pub to : ℕ
+  pub way : ℕ
+
+-- a way is told from a to the first step's value, from there to the next one's, and so on
+abbrev pub ToldAlong : (ℕ → ℕ → Answer ℕ) → ℕ → List Step → Type 0
+ToldAlong forward a [] = Unit {0}
+ToldAlong forward a (step ∷ later) = (forward (step .to) a ≡ given (step .way)) × ToldAlong forward (step .to) later
+
+-- the value that the steps lead to
+abbrev pub lastAlong : ℕ → List Step → ℕ
+lastAlong a [] = a
+lastAlong a (step ∷ later) = lastAlong (step .to) later
+
+-- any number of steps is going forward from the first value to the last, their sum reduced once
+abbrev pub StepsAddUp : ℕ → (ℕ → ℕ → Answer ℕ) → Type 0
+StepsAddUp turn forward = (a : ℕ) (steps : List Step) → a < turn → ToldAlong forward a steps
+    → forward (lastAlong a steps) a ≡ given (total (λ (step : Step). step .way) steps % turn)
+
 -- a signed difference, of a clock whose half turn is `half`
 pub record SignedSums (half : ℕ) (apart : ℕ → ℕ → Answer ℤ) : Type 0 where
   -- a difference is told exactly where both values are in range
@@ -85,8 +94,6 @@ pub record ClockSums : Type 0 where
   pub leads : (m a b : ℕ) → b ≤ m → (minusMod m a b + b) % m ≡ a % m
   -- "going forward from a to b and then from b to c is going forward from a to c, modulo the turn"
   pub sum : (m a b c : ℕ) → b ≤ m → (minusMod m b a + minusMod m c b) % m ≡ minusMod m c a
-  -- and so on, for any number of steps: the sum is reduced once
-  pub along : (m a : ℕ) (later : List ℕ) → Every (λ (b : ℕ). b ≤ m) (a ∷ later) → waysAlong m a later % m ≡ minusMod m (lastAlong a later) a
   -- "forward from a to a is 0"
   pub self : (m a : ℕ) → a ≤ m → minusMod m a a ≡ 0
   -- the signed difference is that way, or that way less a turn, for any half turn
@@ -98,6 +105,8 @@ pub record ClockSums : Type 0 where
   -- ---- "and then for both clocks", of what the calls promise
   -- clock references
   pub references : ForwardSums referenceTurn referenceForward
+  -- and any number of steps, of whatever forward difference meets this
+  pub along : (turn : ℕ) (forward : ℕ → ℕ → Answer ℕ) → ForwardSums turn forward → StepsAddUp turn forward
   -- stamps, which have no call that goes forward: the way
   pub stampSum : (a b c : ℕ) → b < stampTurn → (minusMod stampTurn b a + minusMod stampTurn c b) % stampTurn ≡ minusMod stampTurn c a
   pub stampSelf : (a : ℕ) → a < stampTurn → minusMod stampTurn a a ≡ 0
