@@ -2,7 +2,7 @@
 ghost use Rattle.ground.specs.Outcome.{Stated};
 ghost use Rattle.clock.specs.Sums.{ClockSums};
 
-// True, and with it: ways forward add up modulo the turn, and a signed difference changes sign with its stamps, but for minus half a turn.
+// True, and with it: ways forward add up modulo the turn, and a signed difference changes its sign where its stamps are exchanged, but for minus half a turn.
 pub fn clock_sums() -> bool
     ensures { λ r. ⌜ Stated ClockSums r ⌝ }
 {
