@@ -18,7 +18,7 @@ use Rattle.ground.proofs.Refusal.{accepted}
 use Rattle.clock.specs.Modulus.{minusMod}
 use Rattle.clock.specs.Range.{stampTurn, referenceTurn}
 use Rattle.clock.specs.Difference.{stampDifference}
-use Rattle.clock.specs.Sums.{signedMod, signedWay, ToldInRange, TellSame, ForwardSums, Step, lastAlong, StepsAddUp, SignedSums, ClockSums}
+use Rattle.clock.specs.Sums.{signedMod, signedWay, ToldInRange, TellSame, ForwardSums, Interval, lastAlong, IntervalsAddUp, SignedSums, ClockSums}
 use Rattle.clock.proofs.Modulus.{around, minus-self, minus-sum}
 use Rattle.clock.proofs.Turn.{in-turn}
 use Rattle.clock.proofs.SignedSum.{signed-way, signed-within, signed-self, signed-sum, signed-exchanged, signed-stays}
@@ -55,14 +55,14 @@ forward-sums turn =
       forwardSelf = λ a h. is-given turn (minusMod turn) a a h h ∙ ap given (in-turn turn .self a h);
     }
 
--- any number of steps: the first and then the others are two
-steps-add-up : (turn : ℕ) (forward : ℕ → ℕ → Answer ℕ) → ForwardSums turn forward → StepsAddUp turn forward
-steps-add-up turn forward sums a [] h told = sums .forwardSelf a h ∙ ap given (sym (zero-mod turn))
-steps-add-up turn forward sums a (step ∷ later) h told =
-    let range = sums .forwardTold (step .to) a .0 (step .way, told .0) in
-    let rest = steps-add-up turn forward sums (step .to) later (range .0) (told .1) in
-    sums .forwardSum a (step .to) (lastAlong (step .to) later) (step .way) _ (told .0) rest
-    ∙ ap given (add-mod-mod (step .way) (total (λ (s : Step). s .way) later) turn)
+-- any number of intervals: the first, and then the others as one
+intervals-add-up : (turn : ℕ) (forward : ℕ → ℕ → Answer ℕ) → ForwardSums turn forward → IntervalsAddUp turn forward
+intervals-add-up turn forward sums a [] h told = sums .forwardSelf a h ∙ ap given (sym (zero-mod turn))
+intervals-add-up turn forward sums a (i ∷ later) h told =
+    let range = sums .forwardTold (i .to) a .0 (i .way, told .0) in
+    let rest = intervals-add-up turn forward sums (i .to) later (range .0) (told .1) in
+    sums .forwardSum a (i .to) (lastAlong (i .to) later) (i .way) _ (told .0) rest
+    ∙ ap given (add-mod-mod (i .way) (total (λ (j : Interval). j .way) later) turn)
 
 -- ---- signed
 signed-sums : (half : ℕ) → SignedSums half (difference (2 * half) (signedMod half))
@@ -144,7 +144,7 @@ clock-sums =
       exchanged = λ half a b h l. signed-exchanged half (omega arith) a b (omega arith) (omega arith);
       stays = λ half a b h l. signed-stays half (omega arith) a b (omega arith) (omega arith);
       references = forward-sums referenceTurn;
-      along = steps-add-up;
+      along = intervals-add-up;
       stampSum = λ a b c h. minus-sum stampTurn a b c (le-of-lt h);
       stampSelf = in-turn stampTurn .self;
       stamps = signed-sums (2 ^ 32);

@@ -8,7 +8,7 @@ use Rattle.ground.specs.Answer.{given}
 use Rattle.ground.specs.Walk.{total}
 use Rattle.clock.specs.Range.{referenceTurn}
 use Rattle.clock.specs.Difference.{stampDifference, referenceForward}
-use Rattle.clock.specs.Sums.{Step, ToldAlong, broughtBack}
+use Rattle.clock.specs.Sums.{Interval, ToldAlong, broughtBack}
 
 -- from the last reference to 1 and on to 27,000,000, in two steps and in one
 pub past-turn : (referenceForward 1 2576980377599 ≡ given 2)
@@ -24,14 +24,14 @@ pub over-turn : (referenceForward 2000000000000 0 ≡ given 2000000000000)
 over-turn = (refl, refl, refl, refl)
 
 -- the same ways, and one more back to the first value: two turns, which the remainder does not see
-abbrev pub steps : List Step
-steps =
+abbrev pub intervals : List Interval
+intervals =
     record { to = 2000000000000; way = 2000000000000 }
     ∷ record { to = 923019622400; way = 1500000000000 }
     ∷ record { to = 0; way = 1653960755200 }
     ∷ []
 
-pub along-turns : ToldAlong referenceForward 0 steps × (total (λ (step : Step). step .way) steps ≡ 2 * referenceTurn) × (2 * referenceTurn % referenceTurn ≡ 0)
+pub along-turns : ToldAlong referenceForward 0 intervals × (total (λ (i : Interval). i .way) intervals ≡ 2 * referenceTurn) × (2 * referenceTurn % referenceTurn ≡ 0)
 along-turns = ((refl, (refl, (refl, tt))), refl, refl)
 
 -- to itself

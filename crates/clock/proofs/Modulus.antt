@@ -7,7 +7,7 @@ use native.Mathlib.Omega.{arith}
 use Rattle.clock.specs.Modulus.{minusMod}
 use Rattle.clock.specs.Claims.Modulus.{Around, Wrapped}
 
--- from a to a is a whole turn, or none
+-- from a to a: a whole turn, of which the remainder leaves nothing
 pub minus-self : (m a : ℕ) → a ≤ m → minusMod m a a ≡ 0
 minus-self m a h = ap (λ (x : ℕ). x % m) (omega arith) ∙ mod-self m
 

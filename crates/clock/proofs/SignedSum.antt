@@ -64,7 +64,7 @@ module _ (half : ℕ) (positive : 0 < half) where
       go false e =
           let h = ltb-false (minusMod turn a b) half e in
           let l = around turn .below a b (omega arith) in
-          let turned : raised a b ≡ minusMod turn a b + half - turn = raised-way a b ∙ mod-eq-sub-mod (omega arith) ∙ mod-eq-of-lt (omega arith) in
+          let over : raised a b ≡ minusMod turn a b + half - turn = raised-way a b ∙ mod-eq-sub-mod (omega arith) ∙ mod-eq-of-lt (omega arith) in
           less-same (raised a b) half (minusMod turn a b) turn (omega arith)
 
   pub signed-within : (a b : ℕ) → isWithin half (signedMod half a b) ≡ true
@@ -127,8 +127,8 @@ module _ (half : ℕ) (positive : 0 < half) where
         by-turns a b a l (λ e. none (omega arith) (omega arith)) (λ e. whole (omega arith)) (λ e. absurd (omega (arith, raised-lt b a, raised-lt a b)))
 
     pub signed-exchanged : (signedMod half a b ≡ negℤ (pos half) → ⊥) → signedMod half b a ≡ negℤ (signedMod half a b)
-    signed-exchanged apart =
-        there-and-back (λ e f. absurd (apart (least (raised a b) f)))
+    signed-exchanged other =
+        there-and-back (λ e f. absurd (other (least (raised a b) f)))
         (λ e. less-same (raised b a) half half (raised a b) (omega arith) ∙ sym (less-exchanged (raised a b) half))
 
     pub signed-stays : signedMod half a b ≡ negℤ (pos half) → signedMod half b a ≡ negℤ (pos half)

@@ -27,7 +27,7 @@ signedWay half way = cond (ltb way half) (pos way) (pos way -ℤ pos (2 * half))
 abbrev pub isWithin : ℕ → ℤ → Bool
 isWithin half d = leZ (negℤ (pos half)) d && ltZ d (pos half)
 
--- whichever of s, s − 2·half and s + 2·half lies there
+-- whichever of s, s − 2·half and s + 2·half lies there, as one of them does where s is the sum of two such numbers
 abbrev pub broughtBack : ℕ → ℤ → ℤ
 broughtBack half s = cond (isWithin half s) s (cond (isWithin half (s -ℤ pos (2 * half))) (s -ℤ pos (2 * half)) (s +ℤ pos (2 * half)))
 
@@ -51,25 +51,25 @@ pub record ForwardSums (turn : ℕ) (forward : ℕ → ℕ → Answer ℕ) : Typ
   -- "forward from a to a is 0"
   pub forwardSelf : (a : ℕ) → a < turn → forward a a ≡ given 0
 
--- a step of several: the value that it leads to, and the way to it that was told
-pub record Step : Type 0 where
+-- one of several intervals: the value that it leads to, and the way to it that was told
+pub record Interval : Type 0 where
   pub to : ℕ
   pub way : ℕ
 
--- a way is told from a to the first step's value, from there to the next one's, and so on
-abbrev pub ToldAlong : (ℕ → ℕ → Answer ℕ) → ℕ → List Step → Type 0
+-- a way is told from a to the first one's value, from there to the next one's, and so on
+abbrev pub ToldAlong : (ℕ → ℕ → Answer ℕ) → ℕ → List Interval → Type 0
 ToldAlong forward a [] = Unit {0}
-ToldAlong forward a (step ∷ later) = (forward (step .to) a ≡ given (step .way)) × ToldAlong forward (step .to) later
+ToldAlong forward a (i ∷ later) = (forward (i .to) a ≡ given (i .way)) × ToldAlong forward (i .to) later
 
--- the value that the steps lead to
-abbrev pub lastAlong : ℕ → List Step → ℕ
+-- the value that they lead to
+abbrev pub lastAlong : ℕ → List Interval → ℕ
 lastAlong a [] = a
-lastAlong a (step ∷ later) = lastAlong (step .to) later
+lastAlong a (i ∷ later) = lastAlong (i .to) later
 
--- any number of steps is going forward from the first value to the last, their sum reduced once
-abbrev pub StepsAddUp : ℕ → (ℕ → ℕ → Answer ℕ) → Type 0
-StepsAddUp turn forward = (a : ℕ) (steps : List Step) → a < turn → ToldAlong forward a steps
-    → forward (lastAlong a steps) a ≡ given (total (λ (step : Step). step .way) steps % turn)
+-- any number of them is going forward from the first value to the last, the sum of the ways reduced once
+abbrev pub IntervalsAddUp : ℕ → (ℕ → ℕ → Answer ℕ) → Type 0
+IntervalsAddUp turn forward = (a : ℕ) (intervals : List Interval) → a < turn → ToldAlong forward a intervals
+    → forward (lastAlong a intervals) a ≡ given (total (λ (i : Interval). i .way) intervals % turn)
 
 -- a signed difference, of a clock whose half turn is `half`
 pub record SignedSums (half : ℕ) (apart : ℕ → ℕ → Answer ℤ) : Type 0 where
@@ -105,8 +105,8 @@ pub record ClockSums : Type 0 where
   -- ---- "and then for both clocks", of what the calls promise
   -- clock references
   pub references : ForwardSums referenceTurn referenceForward
-  -- and any number of steps, of whatever forward difference meets this
-  pub along : (turn : ℕ) (forward : ℕ → ℕ → Answer ℕ) → ForwardSums turn forward → StepsAddUp turn forward
+  -- and any number of intervals, of whatever forward difference meets this
+  pub along : (turn : ℕ) (forward : ℕ → ℕ → Answer ℕ) → ForwardSums turn forward → IntervalsAddUp turn forward
   -- stamps, which have no call that goes forward: the way
   pub stampSum : (a b c : ℕ) → b < stampTurn → (minusMod stampTurn b a + minusMod stampTurn c b) % stampTurn ≡ minusMod stampTurn c a
   pub stampSelf : (a : ℕ) → a < stampTurn → minusMod stampTurn a a ≡ 0
