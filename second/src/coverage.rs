@@ -1,6 +1,7 @@
 //! Counts what outcomes hold, and names what they lack.
 
 mod extensions;
+pub mod rates;
 mod sets;
 mod states;
 
@@ -14,8 +15,8 @@ use states::{Shown, States};
 /// The least number of outcomes of each call word.
 const LEAST: u64 = 20_000;
 
-/// Each call word with the refusals that its order in document 01 has, with requests 2, 6 and 12 of document 02.
-const CALLS: [(&str, &[u32]); 23] = [
+/// Each call word with the refusals that its order in document 01 has, with requests 2, 6, 8 and 12 of document 02.
+const CALLS: [(&str, &[u32]); 25] = [
     ("open", &[1, 12, 17, 13, 14, 15]),
     ("close", &[1, 16]),
     ("packet", &[1, 3, 2, 4, 5, 6, 7, 8, 36, 9, 10, 11]),
@@ -39,10 +40,12 @@ const CALLS: [(&str, &[u32]); 23] = [
     ("setclock", &[40, 41]),
     ("apart", &[40]),
     ("forward", &[40]),
+    ("rate", &[40, 80, 81]),
+    ("rerate", &[82, 40, 80, 81]),
 ];
 
 /// Things that must occur beside the refusals.
-const MARKS: [&str; 25] = [
+const MARKS: [&str; 29] = [
     "wanted",
     "unwanted",
     "jump",
@@ -58,9 +61,13 @@ const MARKS: [&str; 25] = [
     "nobody",
     "unwanted36",
     "window",
-    "rate",
+    "piecewise",
     "splice",
     "unflagged",
+    "minus0",
+    "exact",
+    "up",
+    "down",
     "given",
     "closed",
     "right",
@@ -70,9 +77,9 @@ const MARKS: [&str; 25] = [
     "bad",
 ];
 
-const REFUSALS: [u32; 36] = [
+const REFUSALS: [u32; 39] = [
     1, 2, 3, 4, 5, 6, 7, 8, 9, 10, 11, 12, 13, 14, 15, 16, 17, 20, 21, 22, 23, 24, 25, 26, 27, 30,
-    31, 32, 33, 34, 35, 36, 37, 38, 40, 41,
+    31, 32, 33, 34, 35, 36, 37, 38, 40, 41, 80, 81, 82,
 ];
 
 #[derive(Default)]
@@ -91,13 +98,21 @@ impl Counts {
         }
     }
 
+    fn add_all(&mut self, names: Vec<&str>) {
+        names.into_iter().for_each(|name| self.add(name));
+    }
+
     pub fn get(&self, name: &str) -> u64 {
         self.of.get(name).copied().unwrap_or(0)
     }
 
-    /// Counts one outcome under each name that fits it.
-    pub fn outcome(&mut self, line: &str) {
-        let parts: Vec<&str> = line.split(' ').collect();
+    /// Counts one outcome, alone or before a tab and the line that it answers, under each name that fits it.
+    pub fn outcome(&mut self, text: &str) {
+        let (outcome, line) = match text.split_once('\t') {
+            Some((outcome, line)) => (outcome, Some(line)),
+            None => (text, None),
+        };
+        let parts: Vec<&str> = outcome.split(' ').collect();
         self.add(&format!("call {}", parts[0]));
         let shown = self.states.shown(&parts);
         if shown.repeated {
@@ -106,11 +121,10 @@ impl Counts {
         match parts.get(1) {
             Some(&"refused") => self.refused(&parts),
             Some(&"wanted") => self.wanted(&parts, &shown),
-            Some(_) if parts[0] == "alone" => {
-                inside(&parts).into_iter().for_each(|mark| self.add(mark))
-            }
+            Some(_) if parts[0] == "alone" => self.add_all(inside(&parts)),
+            Some(_) if rates::WORDS.contains(&parts[0]) => self.add_all(rates::told(&parts, line)),
             Some(word) if MARKS.contains(word) => self.add(word),
-            _ if line == "bad" => self.add("bad"),
+            _ if outcome == "bad" => self.add("bad"),
             _ => {}
         }
     }
@@ -161,8 +175,9 @@ pub fn run(
     lacks: &mut dyn Write,
 ) -> io::Result<bool> {
     let mut counts = Counts::default();
-    for line in input.lines() {
-        counts.outcome(&line?);
+    // A script's line can hold any bytes.
+    for text in input.split(b'\n') {
+        counts.outcome(&String::from_utf8_lossy(&text?));
     }
     for refusal in REFUSALS {
         let name = format!("refused {}", refusal);

@@ -5,11 +5,13 @@ mod bad;
 mod choices;
 mod driver;
 mod extensions;
+pub mod middles;
 mod numbers;
 pub mod packets;
 mod payloads;
 mod pes;
 pub mod random;
+mod rates;
 pub mod recording;
 mod script;
 mod sections;
@@ -24,13 +26,14 @@ use script::Script;
 type Generator = fn(&mut Random, &mut Script);
 
 /// Each kind of script with what makes it.
-pub const KINDS: [(&str, Generator); 7] = [
+pub const KINDS: [(&str, Generator); 8] = [
     ("driver", driver::generate),
     ("numbers", numbers::generate),
     ("alone", alone::generate),
     ("tables", tables::generate),
     ("pes", pes::generate),
     ("time", time::generate),
+    ("rates", rates::generate),
     ("bad", bad::generate),
 ];
 

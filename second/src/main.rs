@@ -10,6 +10,7 @@ mod generate;
 mod listing;
 mod numbers_of_the_house;
 mod pes_headers;
+mod rates;
 mod refusal_numbers;
 mod soundness;
 mod state;
@@ -31,7 +32,7 @@ const USAGE: &str = "usage: second list [FILE]
        second generate KIND SEED COUNT > SCRIPT
        second recording FILE > SCRIPT
        second coverage < OUTCOMES
-kinds: driver numbers alone tables pes time bad";
+kinds: driver numbers alone tables pes time rates bad";
 
 fn main() -> ExitCode {
     let arguments: Vec<OsString> = env::args_os().skip(1).collect();

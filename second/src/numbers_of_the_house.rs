@@ -1,4 +1,4 @@
-//! Document 01, "Numbers of the house", with request 2 of document 02.
+//! Document 01, "Numbers of the house", with requests 2 and 8 of document 02.
 
 pub const AREAS: usize = 8;
 pub const AREA_BYTES: usize = 4_096;
@@ -14,3 +14,5 @@ pub const LAST_PID: u16 = 0x1FFF;
 pub const LAST_CHOICE: u16 = 255;
 pub const STAMP_TURN: u64 = 8_589_934_592;
 pub const CLOCK_TURN: u64 = 2_576_980_377_600;
+pub const TICKS_A_SECOND: u64 = 27_000_000;
+pub const MOST_RATED_BYTES: u64 = 333_599_972;

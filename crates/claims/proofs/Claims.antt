@@ -5,6 +5,7 @@ use Rattle.octets.proofs.Claims as bytes
 use Rattle.pid.proofs.Claims as pids
 use Rattle.section.proofs.Claims as lengths
 use Rattle.clock.proofs.Claims as times
+use Rattle.rates.proofs.Claims as speeds
 use Rattle.crc_table.proofs.Claims as entries
 use Rattle.crc.proofs.Claims as checks
 use Rattle.packet.proofs.Claims as packets
@@ -34,6 +35,7 @@ every-claim =
       pid = pids.claims;
       section = lengths.claims;
       clock = times.claims;
+      rates = speeds.claims;
       crcTable = entries.claims;
       crc = checks.claims;
       packet = packets.claims;

@@ -4,6 +4,7 @@ use Rattle.octets.specs.Claims as bytes
 use Rattle.pid.specs.Claims as pids
 use Rattle.section.specs.Claims as lengths
 use Rattle.clock.specs.Claims as times
+use Rattle.rates.specs.Claims as speeds
 use Rattle.crc_table.specs.Claims as entries
 use Rattle.crc.specs.Claims as checks
 use Rattle.packet.specs.Claims as packets
@@ -34,6 +35,8 @@ pub record EveryClaim : Type 0 where
   pub section : lengths.Claims
   -- stamps and clock references: read, written, read back, and their differences
   pub clock : times.Claims
+  -- rates between clock references
+  pub rates : speeds.Claims
   -- CRC_32, and its table
   pub crcTable : entries.Claims
   pub crc : checks.Claims

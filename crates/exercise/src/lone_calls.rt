@@ -5,6 +5,7 @@ use crate::line::Values;
 use crate::line::eight_bits;
 use crate::line::sixteen_bits;
 use crate::outcome;
+use crate::rate_calls;
 use crate::table_calls;
 use clock::Written;
 use clock::reference;
@@ -42,6 +43,12 @@ pub(crate) fn answer(line: Line, bytes: &mut [u8], text: &mut [u8], at: usize) -
     }
     if line.is(b"forward", 2, false) {
         return forward(n, text, at);
+    }
+    if line.is(b"rate", 3, false) {
+        return rate_calls::rate(n, text, at);
+    }
+    if line.is(b"rerate", 6, false) {
+        return rate_calls::rerate(n, text, at);
     }
     if line.is(b"pid", 1, false) & line.within(65535, 0) {
         return pid(n, text, at);

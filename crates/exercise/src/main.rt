@@ -3,6 +3,7 @@ mod buffers;
 mod line;
 mod lone_calls;
 mod outcome;
+mod rate_calls;
 mod records;
 mod state_calls;
 mod table_calls;

@@ -1,7 +1,7 @@
 //! The extensions that outcomes of `alone` print.
 
 /// The places of WINDOW, RATE and SPLICE behind EXTENSION, each with its mark.
-const INSIDE: [(usize, &str); 3] = [(16, "window"), (17, "rate"), (18, "splice")];
+const INSIDE: [(usize, &str); 3] = [(16, "window"), (17, "piecewise"), (18, "splice")];
 
 const EXTENSION: usize = 15;
 

@@ -2,6 +2,7 @@
 
 use super::line::Call;
 use super::outcome::{digest, hexadecimal, optional, refused, told};
+use super::rate_calls;
 use crate::pes_headers::{read_header, Full, Header, Stamps};
 use crate::refusal_numbers::Refusal;
 use crate::the_packet::{make_pid, read_packet, Part, Reading, Window};
@@ -24,6 +25,8 @@ pub fn answer(call: &Call) -> Option<String> {
         "setclock" => written(bytes, |lent| write_clock(numbers[0], lent)),
         "apart" => told(apart(numbers[0], numbers[1]), |value| value.to_string()),
         "forward" => told(forward(numbers[0], numbers[1]), |value| value.to_string()),
+        "rate" => rate_calls::first(numbers),
+        "rerate" => rate_calls::again(numbers),
         _ => return None,
     };
     Some(outcome)

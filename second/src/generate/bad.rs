@@ -21,9 +21,9 @@ pub fn generate(random: &mut Random, script: &mut Script) {
 }
 
 /// The words whose lines requests gave more numbers, or that came with one.
-const COUNTED: [&str; 5] = ["area", "place", "list", "open", "packet"];
+const COUNTED: [&str; 7] = ["area", "place", "list", "open", "packet", "rate", "rerate"];
 
-/// A line of such a word with one number too few, as many as it has or one too many; the last is small, at its limit or past it.
+/// A line of such a word with one number too few, as many as it has or one too many; the last is small, at its limit or past it, and at times bytes are missing or too much.
 fn counted_line(random: &mut Random) -> Vec<u8> {
     let lines = LINES.iter().filter(|line| COUNTED.contains(&line.0));
     let shapes: Vec<_> = lines.collect();
@@ -32,9 +32,9 @@ fn counted_line(random: &mut Random) -> Vec<u8> {
     for _ in 0..random.between(ranges.len() - 2, ranges.len()) {
         fields.push(random.below(2).to_string());
     }
-    let limit = ranges[ranges.len() - 1];
+    let limit = u128::from(ranges[ranges.len() - 1]);
     fields.push(random.pick(&[0, 1, 2, limit, limit + 1]).to_string());
-    if with_bytes {
+    if with_bytes != random.one_in(8) {
         fields.push(field(&random.bytes(4)));
     }
     fields.join(" ").into_bytes()
@@ -141,6 +141,8 @@ fn word(random: &mut Random) -> String {
         "p",
         "pi",
         "pidd",
+        "rates",
+        "rerat",
     ];
     random.pick(&words).to_string()
 }

@@ -1,6 +1,6 @@
-//! What coverage counts in the states, sets and extensions that outcomes print.
+//! What coverage counts in the states, sets, extensions and rates that outcomes print.
 
-use crate::coverage::Counts;
+use crate::coverage::{self, Counts};
 
 /// A state with areas on PIDs 0 and 1, of which the first has the rest of its record given.
 fn state(rest: &str) -> String {
@@ -112,7 +112,7 @@ fn parts_of_extensions_are_counted() {
     let count = |line: &str, expected: [u64; 4]| {
         let mut counts = Counts::default();
         counts.outcome(line);
-        let marks = ["window", "rate", "splice", "unflagged"];
+        let marks = ["window", "piecewise", "splice", "unflagged"];
         assert_eq!(marks.map(|mark| counts.get(mark)), expected, "{}", line);
     };
     for (told, expected) in cases {
@@ -135,5 +135,74 @@ fn refusals_36_that_nobody_asked_for_are_counted() {
         let mut counts = Counts::default();
         counts.outcome(&format!("{} store - output - sets - {}", told, state));
         assert_eq!(counts.get("unwanted36"), expected, "{} {}", told, state);
+    }
+}
+
+/// How often each mark of rates is counted in a text.
+fn rate_marks(text: &str) -> [u64; 5] {
+    let mut counts = Counts::default();
+    counts.outcome(text);
+    ["exact", "up", "down", "minus0", "piecewise"].map(|mark| counts.get(mark))
+}
+
+#[test]
+fn roundings_are_counted_beside_their_lines() {
+    let cases = [
+        ("4752116579024502784", "188 1 0", [1, 0, 0, 0, 0]),
+        ("4833005771537743141", "333599972 7 0", [0, 1, 0, 0, 0]),
+        ("4532302378413590880", "1 0 1", [0, 0, 1, 0, 0]),
+        // Doubles next to the right ones.
+        ("4752116579024502785", "188 1 0", [0, 1, 0, 0, 0]),
+        ("4752116579024502783", "188 1 0", [0, 0, 1, 0, 0]),
+        ("0", "0 1 0", [0; 5]),
+    ];
+    for (latest, asked, marks) in cases {
+        let told = format!("0 {} 9218868437227405312", latest);
+        let first = format!("rate {}\trate {}", told, asked);
+        assert_eq!(rate_marks(&first), marks, "{}", first);
+        let again = format!("rerate {}\trerate {} {}", told, told, asked);
+        assert_eq!(rate_marks(&again), marks, "{}", again);
+        let alone = format!("rate {}", told);
+        assert_eq!(rate_marks(&alone), [0; 5], "{}", alone);
+    }
+    assert_eq!(
+        rate_marks("rate refused 40\trate 1 1 2576980377600"),
+        [0; 5]
+    );
+    assert_eq!(rate_marks("bad\trate 1 1"), [0; 5]);
+}
+
+#[test]
+fn a_kept_minus_zero_is_counted() {
+    let minus = "9223372036854775808";
+    let cases = [
+        (format!("{} 0 1", minus), 1),
+        (format!("{} 0 {}", minus, minus), 1),
+        (format!("0 0 {}", minus), 1),
+        (format!("{} 1 1", minus), 0),
+        (format!("0 {} 0", minus), 0),
+        (String::from("0 0 1"), 0),
+    ];
+    for (told, expected) in cases {
+        let marks = rate_marks(&format!("rerate {}", told));
+        assert_eq!(marks, [0, 0, 0, expected, 0], "{}", told);
+    }
+}
+
+#[test]
+fn outcomes_are_counted_with_or_without_their_lines() {
+    let texts: [&[u8]; 3] = [
+        b"pid 7\npid refused 12\nbad\n",
+        b"pid 7\tpid 7\npid refused 12\tpid 8192\nbad\tpid refused 12\n",
+        b"pid 7\tpid 7\npid refused 12\tpid 8192\nbad\t\xFF\x00\tpid\r",
+    ];
+    for text in texts {
+        let mut output = Vec::new();
+        let whole = coverage::run(&mut &*text, &mut output, &mut Vec::new());
+        assert!(!whole.unwrap());
+        let output = String::from_utf8(output).unwrap();
+        for line in ["refused 12 1", "bad 1", "pid 2 12:1"] {
+            assert!(output.lines().any(|found| found == line), "{}", line);
+        }
     }
 }

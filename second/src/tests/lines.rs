@@ -48,6 +48,14 @@ fn request_06_as_a_script() {
 }
 
 #[test]
+fn request_08_as_a_script() {
+    answered(
+        include_str!("../../examples/request-08.script"),
+        include_str!("../../examples/request-08.expected"),
+    );
+}
+
+#[test]
 fn request_10_as_a_script() {
     answered(
         include_str!("../../examples/request-10.script"),
@@ -71,7 +79,7 @@ fn request_13_as_a_script() {
     );
 }
 
-const MALFORMED: [&str; 52] = [
+const MALFORMED: [&str; 61] = [
     "",
     " ",
     "Open 1 2",
@@ -124,6 +132,15 @@ const MALFORMED: [&str; 52] = [
     "anystamp",
     "anystamp 1 =",
     "anystamps =",
+    "rate",
+    "rate 188 1",
+    "rate 188 1 0 0",
+    "rate 188 1 0 =",
+    "rate 18446744073709551616 1 0",
+    "rerate 0 0 0 188 1",
+    "rerate 0 0 0 188 1 0 0",
+    "rerate 0 0 0 188 1 0 =00",
+    "rerate -0 0 0 188 1 0",
 ];
 
 #[test]
@@ -161,6 +178,15 @@ fn lines_at_their_limits() {
         ("alone =", "alone refused 2 payload 0 1"),
         ("crc =", "crc wrong"),
         ("anystamp =", "anystamp refused 41"),
+        (
+            "rate 18446744073709551615 18446744073709551615 18446744073709551615",
+            "rate refused 40",
+        ),
+        ("rate 18446744073709551615 1 0", "rate refused 80"),
+        (
+            "rerate 0 0 18446744073709551615 188 1 0",
+            "rerate refused 82",
+        ),
     ];
     for (line, expected) in pairs {
         assert_eq!(outcome(line), expected);

@@ -1,0 +1,11 @@
+pub mod Quotient
+pub mod Signs
+pub mod Doubles
+pub mod Closest
+pub mod Nearest
+pub mod Rows
+pub mod Given
+pub mod Kept
+pub mod Examples
+pub mod RateLaws
+pub mod Claims

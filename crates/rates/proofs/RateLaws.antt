@@ -1,0 +1,29 @@
+-- Each law by its own file.
+-- Assumes nothing.
+use lib.Ieee.{binary64}
+use Rattle.rates.specs.Rate.{ticksOf, withRate}
+use Rattle.rates.specs.Laws.{rateAlong, RateLaws}
+use Rattle.rates.proofs.Quotient.{whole-quotient}
+use Rattle.rates.proofs.Nearest.{rate-nearest}
+use Rattle.rates.proofs.Given.{forward-told, ticks-pos, ticks-small, rate-number, rate-rises, given-has, has-given, given-ordered, ordered-numbers, ordered-goes-on}
+use Rattle.rates.proofs.Kept.{keeps, only, runs}
+use Rattle.rates.proofs.Examples.{examples}
+
+pub rate-laws : RateLaws
+rate-laws =
+    record {
+      oneDivision = whole-quotient binary64;
+      nearest = λ s h. rate-nearest (s .bytes) (ticksOf (s .later) (s .earlier)) (h .fewBytes) (ticks-pos s h) (ticks-small s);
+      finite = λ s h. rate-number (s .bytes) (ticksOf (s .later) (s .earlier)) (h .fewBytes) (ticks-pos s h);
+      rises = rate-rises;
+      forward = λ s h. (forward-told s (h .laterInRange) (h .earlierInRange), ticks-pos s h);
+      givenExactly = λ k s.
+          (λ e. let found = given-has k s (e .0) (e .1) in (found .0, found .1), λ e. (withRate k (rateAlong s), has-given k s (e .0) (e .1)));
+      ordered = given-ordered;
+      goesOn = λ k s next r e. ordered-goes-on r next (given-ordered k s r e);
+      numbers = λ k s r e. ordered-numbers r (given-ordered k s r e);
+      runs = runs;
+      keeps = keeps;
+      only = only;
+      examples = examples;
+    }
