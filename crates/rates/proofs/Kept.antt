@@ -9,7 +9,7 @@ use Rattle.ground.specs.Answer.{given}
 use Rattle.ground.specs.Walk.{Every}
 use Rattle.ground.proofs.Test.{both-true}
 use Rattle.rates.specs.Rate.{isOrdered, isUnordered, withRate}
-use Rattle.rates.specs.Laws.{Stretch, HasRate, rateAlong, ratedWith, RatedAlong, before, FirstBest, Keeps}
+use Rattle.rates.specs.Laws.{Stretch, HasRate, rateAlong, ratedWith, RatedAlong, FirstBest, FirstLowest, isAbove, isAtLeast, FirstHighest, Keeps}
 use Rattle.rates.specs.declared.Rates.{Rates}
 use Rattle.rates.specs.declared.Known.{Known}
 use Rattle.rates.specs.declared.Known.the-variants as known
@@ -27,7 +27,7 @@ among : (P : Float → Type 0) (x : Float) (front back : List Float) → Every P
 among P x [] back each = each .0
 among P x (y ∷ front) back each = among P x front back (each .1)
 
-module _ (beats holds : Float → Float → Bool) (order : Order beats holds) where
+module _ {beats holds : Float → Float → Bool} (order : Order beats holds) where
   -- a new one that beats the old one takes its place
   taken : (old x v : Float) (rest : List Float) → beats x old ≡ true → FirstBest beats holds v (x ∷ rest) → FirstBest beats holds v (old ∷ x ∷ rest)
   taken old x v rest b f =
@@ -85,14 +85,16 @@ module _ (beats holds : Float → Float → Bool) (order : Order beats holds) wh
 down : Order lt le
 down = record { weak = lt-le; apart = λ x y b h. le-not y x h b; through = lt-through }
 
-up : Order (λ x y. lt y x) (λ x y. le y x)
+up : Order isAbove isAtLeast
 up = record { weak = λ x y. lt-le y x; apart = λ x y b h. le-not x y h b; through = λ x y z b h. le-through z y x h b }
 
 -- ---- a list has one last
+-- with something in it
 not-empty : (x : Float) (front : List Float) → [] ≡ front ++ x ∷ [] → ⊥
 not-empty x [] e = nil≢cons e
 not-empty x (y ∷ front) e = nil≢cons e
 
+-- the same one however it is parted
 last-same : (v w : Float) (front other : List Float) → front ++ v ∷ [] ≡ other ++ w ∷ [] → v ≡ w
 last-same v w [] [] e = cc
 last-same v w [] (y ∷ other) e = let tail : [] ≡ other ++ w ∷ [] = cc in absurd (not-empty w other tail)
@@ -100,6 +102,7 @@ last-same v w (x ∷ front) [] e = let tail : [] ≡ front ++ v ∷ [] = cc in a
 last-same v w (x ∷ front) (y ∷ other) e = let tail : front ++ v ∷ [] ≡ other ++ w ∷ [] = cc in last-same v w front other tail
 
 -- ---- the record
+-- a rate more, taken in before all others
 one-more : (k : Known) (x : Float) (rates : List Float) (r : Rates) → isUnordered k ≡ false → isNan x ≡ false → Keeps (known.Record (withRate k x)) rates r
     → Keeps k (x ∷ rates) r
 one-more known.Nothing x rates r e p f = record { latest = f .latest; lowest = f .lowest; highest = f .highest }
@@ -113,34 +116,37 @@ one-more (known.Record old) x rates r e p f =
     numbers : (isNan (old .lowest) ≡ false) × (isNan (old .latest) ≡ false) × (isNan (old .highest) ≡ false)
     numbers = ordered-numbers old (not-false _ e)
 
-    below : (b : Bool) → lt x (old .lowest) ≡ b → FirstBest lt le (r .lowest) (cond b x (old .lowest) ∷ rates) → FirstBest lt le (r .lowest) (old .lowest ∷ x ∷ rates)
-    below true g = taken lt le down (old .lowest) x (r .lowest) rates g
-    below false g = stays lt le down (old .lowest) x (r .lowest) rates (total x (old .lowest) p (numbers .0) g)
+    below : (b : Bool) → lt x (old .lowest) ≡ b → FirstLowest (r .lowest) (cond b x (old .lowest) ∷ rates) → FirstLowest (r .lowest) (old .lowest ∷ x ∷ rates)
+    below true g = taken down (old .lowest) x (r .lowest) rates g
+    below false g = stays down (old .lowest) x (r .lowest) rates (total x (old .lowest) p (numbers .0) g)
 
-    above : (b : Bool) → lt (old .highest) x ≡ b → FirstBest (λ x y. lt y x) (λ x y. le y x) (r .highest) (cond b x (old .highest) ∷ rates)
-        → FirstBest (λ x y. lt y x) (λ x y. le y x) (r .highest) (old .highest ∷ x ∷ rates)
-    above true g = taken (λ x y. lt y x) (λ x y. le y x) up (old .highest) x (r .highest) rates g
-    above false g = stays (λ x y. lt y x) (λ x y. le y x) up (old .highest) x (r .highest) rates (total (old .highest) x (numbers .2) p g)
+    above : (b : Bool) → lt (old .highest) x ≡ b → FirstHighest (r .highest) (cond b x (old .highest) ∷ rates)
+        → FirstHighest (r .highest) (old .highest ∷ x ∷ rates)
+    above true g = taken up (old .highest) x (r .highest) rates g
+    above false g = stays up (old .highest) x (r .highest) rates (total (old .highest) x (numbers .2) p g)
 
-one-alone : (beats holds : Float → Float → Bool) (x : Float) → FirstBest beats holds x (x ∷ [])
-one-alone beats holds x = record { earlier = []; later = []; split = refl; beaten = tt; held = tt }
+-- of one alone
+one-alone : {beats holds : Float → Float → Bool} (x : Float) → FirstBest beats holds x (x ∷ [])
+one-alone x = record { earlier = []; later = []; split = refl; beaten = tt; held = tt }
 
+-- of all
 pub keeps : (k : Known) (stretches : List Stretch) (r : Rates) → RatedAlong k stretches (known.Record r) → Keeps k (map rateAlong stretches) r
-keeps k [] r e = subst (λ (l : Known). Keeps l [] r) (sym e) (record { latest = ([], refl); lowest = one-alone lt le (r .lowest); highest = one-alone (λ x y. lt y x) (λ x y. le y x) (r .highest) })
+keeps k [] r e = subst (λ (l : Known). Keeps l [] r) (sym e) (record { latest = ([], refl); lowest = one-alone (r .lowest); highest = one-alone (r .highest) })
 keeps k (s ∷ later) r (next, e, rest) =
     let found = given-has k s next e in
     one-more k (rateAlong s) (map rateAlong later) r (found .0) (rate-no-nan _ _ (found .1 .fewBytes) (ticks-pos s (found .1)))
     (subst (λ (l : Rates). Keeps (known.Record l) (map rateAlong later) r) (found .2) (keeps (known.Record next) later r rest))
 
-abbrev recordOf : Float → Float → Float → Rates
-recordOf x y z = record { lowest = x; latest = y; highest = z }
+-- three doubles fix a record
+abbrev allThree : Float → Float → Float → Rates
+allThree x y z = record { lowest = x; latest = y; highest = z }
 
 pub only : (k : Known) (rates : List Float) (r other : Rates) → Keeps k rates r → Keeps k rates other → r ≡ other
 only k rates r other f g =
-    let a = first-same lt le down (r .lowest) (other .lowest) _ (f .lowest) (g .lowest) in
+    let a = first-same down (r .lowest) (other .lowest) _ (f .lowest) (g .lowest) in
     let b = last-same (r .latest) (other .latest) (f .latest .0) (g .latest .0) (sym (f .latest .1) ∙ g .latest .1) in
-    let c = first-same (λ x y. lt y x) (λ x y. le y x) up (r .highest) (other .highest) _ (f .highest) (g .highest) in
-    let same : recordOf (r .lowest) (r .latest) (r .highest) ≡ recordOf (other .lowest) (other .latest) (other .highest) = cc in
+    let c = first-same up (r .highest) (other .highest) _ (f .highest) (g .highest) in
+    let same : allThree (r .lowest) (r .latest) (r .highest) ≡ allThree (other .lowest) (other .latest) (other .highest) = cc in
     same
 
 -- nothing ends the calls but a stretch that has no rate

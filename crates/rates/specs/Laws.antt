@@ -56,14 +56,28 @@ pub record FirstBest (beats holds : Float → Float → Bool) (x : Float) (list 
   pub beaten : Every (λ y. beats x y ≡ true) earlier
   pub held : Every (λ y. holds x y ≡ true) later
 
+-- the lowest of a list
+abbrev pub FirstLowest : Float → List Float → Type 0
+FirstLowest = FirstBest lt le
+
+-- and the highest, the order turned round
+abbrev pub isAbove : Float → Float → Bool
+isAbove x y = lt y x
+
+abbrev pub isAtLeast : Float → Float → Bool
+isAtLeast x y = le y x
+
+abbrev pub FirstHighest : Float → List Float → Type 0
+FirstHighest = FirstBest isAbove isAtLeast
+
 -- the record after some rates: what is told of each of its doubles, with the one that was there before
 pub record Keeps (k : Known) (rates : List Float) (r : Rates) : Type 0 where
   -- the last rate
   pub latest : (front : List Float) × (before (λ (old : Rates). old .latest) k ++ rates ≡ front ++ r .latest ∷ [])
   -- at most every rate, one of them, and of equal ones the first
-  pub lowest : FirstBest lt le (r .lowest) (before (λ (old : Rates). old .lowest) k ++ rates)
+  pub lowest : FirstLowest (r .lowest) (before (λ (old : Rates). old .lowest) k ++ rates)
   -- at least every rate, one of them, and of equal ones the first
-  pub highest : FirstBest (λ x y. lt y x) (λ x y. le y x) (r .highest) (before (λ (old : Rates). old .highest) k ++ rates)
+  pub highest : FirstHighest (r .highest) (before (λ (old : Rates). old .highest) k ++ rates)
 
 pub record RateLaws : Type 0 where
   -- ---- "both exact before the one division"

@@ -1,26 +1,23 @@
 -- None of a given record's doubles is a NaN, so that each has its bits.
 -- Assumes nothing.
-use mathlib.Core.Path.{_≡_, sym, _∙_, ap}
+use mathlib.Core.Path.{sym, _∙_, ap}
 use mathlib.Core.Bool.{not}
-use Prim.Native.Nat.{ℕ}
 use lib.Dec.{T}
 use lib.Ieee.{isNan}
 use Rattle.rates.specs.Rate.{toldRates}
-use Rattle.rates.specs.Promises.{GivesRate}
-use Rattle.rates.specs.declared.Rates.{Rates}
-use Rattle.rates.specs.declared.Known.{Known}
-use Rattle.rates.specs.declared.Rated.{Rated}
-use Rattle.rates.specs.declared.Rated.the-variants as rating
+use Rattle.rates.specs.Laws.{Stretch}
 use Rattle.rates.proofs.RateLaws.{rate-laws}
 use borrow.Author.Needs.{needs}
 use Rattle.exercise.proofs.rate_calls.rated.Statement.{statement}
 use Rattle.exercise.proofs.rate_calls.rated.Tie as tie
 
 -- what was given, by the call's promise
-have-bits : (known : Known) (bytes later earlier : ℕ) (answer : Rated) (r : Rates) → GivesRate known bytes later earlier answer → answer ≡ rating.Record r
-    → T (not (isNan (r .lowest))) × T (not (isNan (r .latest))) × T (not (isNan (r .highest)))
-have-bits known bytes later earlier answer r promise is =
-    let numbers = rate-laws .numbers known (record { bytes = bytes; later = later; earlier = earlier }) r (sym promise ∙ ap toldRates is) in
+have-bits : (place : tie.After-answer2)
+    → T (not (isNan (place .answer2 .given .0 .0 .lowest))) × T (not (isNan (place .answer2 .given .0 .0 .latest))) × T (not (isNan (place .answer2 .given .0 .0 .highest)))
+have-bits place =
+    let a = place .before .before .before .before .args in
+    let s : Stretch = record { bytes = a .bytes; later = a .later; earlier = a .earlier } in
+    let numbers = rate-laws .numbers (a .known) s _ (sym (place .before .before .rate .ensures) ∙ ap toldRates (place .answer2 .given .1)) in
     (rw (numbers .0) tt, rw (numbers .1) tt, rw (numbers .2) tt)
 
 rate-requires : tie.Need-rate-requires
@@ -36,19 +33,13 @@ enum-known-answer-2 : tie.Need-enum-known-answer-2
 enum-known-answer-2 c = search needs
 
 float-to-bits-t16 : tie.Need-float-to-bits-t16
-float-to-bits-t16 c =
-    let a = c .before .before .before .before .before .before .args in
-    have-bits (a .known) (a .bytes) (a .later) (a .earlier) _ _ (c .before .before .before .before .rate .ensures) (c .before .before .answer2 .given .1) .0
+float-to-bits-t16 c = have-bits (c .before .before) .0
 
 float-to-bits-t17 : tie.Need-float-to-bits-t17
-float-to-bits-t17 c =
-    let a = c .before .before .before .before .before .before .before .args in
-    have-bits (a .known) (a .bytes) (a .later) (a .earlier) _ _ (c .before .before .before .before .before .rate .ensures) (c .before .before .before .answer2 .given .1) .1
+float-to-bits-t17 c = have-bits (c .before .before .before) .1
 
 float-to-bits-t18 : tie.Need-float-to-bits-t18
-float-to-bits-t18 c =
-    let a = c .before .before .before .before .before .before .before .before .args in
-    have-bits (a .known) (a .bytes) (a .later) (a .earlier) _ _ (c .before .before .before .before .before .before .rate .ensures) (c .before .before .before .before .answer2 .given .1) .2
+float-to-bits-t18 c = have-bits (c .before .before .before .before) .2
 
 slice-aggregate-numbers : tie.Need-slice-aggregate-numbers
 slice-aggregate-numbers c = search needs
