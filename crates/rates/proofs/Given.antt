@@ -2,22 +2,23 @@
 -- Assumes nothing.
 use mathlib.Core.Path.{_≡_, refl, sym, _∙_, ap}
 use mathlib.Core.Bool.{Bool, true, false, cond, not, _&&_, false≢true}
+use mathlib.Core.Logic.{_⊎_, inl, inr}
 use Prim.Native.Nat.{ℕ, _+_, _*_, _%_, _^_, _≤_, _<_}
 use native.Mathlib.Nat.{mul-one, mul-le-mul, mul-le-mul-right, le-mul-of-pos-right, pos-of-ne-zero, mod-eq-of-lt, le-of-lt, zero-add, mod-lt}
 use native.Mathlib.Omega.{arith}
-use lib.Dec.{eqb, lit<}
+use lib.Dec.{leb, eqb, lit<}
 use lib.IntN.{ℤ}
 use lib.Ieee.{Float, nan, inf, fin, binary64, round, lt, le, isNan}
 use lib.Ieee.Bits.{is-true}
 use lib.Ieee.Exact.{HasValue}
 use lib.Ieee.Order.{round-mono}
 use lib.Ieee.Scale.{finite, grid, round-under, round-val}
-use borrow.Author.Tests.{ltb-false, le-ltb, leb-false, lt-leb, eqb-false, ne-eqb, not-false}
+use borrow.Author.Tests.{ltb-false, lt-ltb, le-ltb, leb-false, le-leb, lt-leb, eqb-false, eq-eqb, ne-eqb, not-false}
 use Rattle.ground.specs.Answer.{Answer, refused, given}
 use Rattle.ground.proofs.Answer.{given-apart, refused-same}
 use Rattle.ground.proofs.Judged.{given-by, judge-ind}
 use Rattle.ground.proofs.Refusal.{accepted}
-use Rattle.ground.proofs.Test.{both-true, true-both}
+use Rattle.ground.proofs.Test.{both-true, true-both, either-way}
 use Rattle.clock.specs.Range.{referenceTurn}
 use Rattle.clock.specs.Difference.{referenceForwardRefusals, referenceForward}
 use Rattle.clock.proofs.ClockSums.{clock-sums}
@@ -44,6 +45,10 @@ some-ticks : (s : Stretch) → HasRate s → ticksIn s ≡ 0 → ⊥
 some-ticks s h z =
     let leads = clock-sums .references .forwardLeads (s .later) (s .earlier) (ticksIn s) (forward-told s (h .laterInRange) (h .earlierInRange)) .1 in
     h .differ (sym leads ∙ ap (λ (t : ℕ). t % referenceTurn) (ap (λ (t : ℕ). t + s .earlier) z ∙ zero-add (s .earlier)) ∙ mod-eq-of-lt (h .earlierInRange))
+
+-- where they are equal they are
+no-ticks : (s : Stretch) → s .earlier < referenceTurn → s .later ≡ s .earlier → ticksIn s ≡ 0
+no-ticks s h same = ap (λ (l : ℕ). ticksOf l (s .earlier)) same ∙ clock-sums .self referenceTurn (s .earlier) (le-of-lt h)
 
 pub ticks-pos : (s : Stretch) → HasRate s → 0 < ticksIn s
 ticks-pos s h = pos-of-ne-zero (some-ticks s h)
@@ -88,9 +93,7 @@ given-has k s r e =
         laterInRange = leb-false referenceTurn (s .later) (rows .1 .0);
         earlierInRange = leb-false referenceTurn (s .earlier) (rows .1 .1 .0);
         fewBytes = ltb-false 333599972 (s .bytes) (rows .1 .1 .1 .0);
-        differ = λ same.
-            eqb-false (ticksIn s) 0 (rows .1 .1 .1 .1 .0)
-            (ap (λ (l : ℕ). ticksOf l (s .earlier)) same ∙ clock-sums .self referenceTurn (s .earlier) (le-of-lt (leb-false referenceTurn (s .earlier) (rows .1 .1 .0))));
+        differ = λ same. eqb-false (ticksIn s) 0 (rows .1 .1 .1 .1 .0) (no-ticks s (leb-false referenceTurn (s .earlier) (rows .1 .1 .0)) same);
       },
       found .1,
     )
@@ -101,6 +104,21 @@ has-given k s e h =
     accepted refused (given (withRate k (rateAlong s))) (rateRefusals k (s .bytes) (s .later) (s .earlier))
     (e, (lt-leb referenceTurn (s .later) (h .laterInRange), (lt-leb referenceTurn (s .earlier) (h .earlierInRange), (le-ltb 333599972 (s .bytes) (h .fewBytes), (ne-eqb (ticksIn s) 0 (some-ticks s h), tt)))))
 
+-- ---- each refusal where the rows before it do not apply
+module _ (k : Known) (s : Stretch) (ordered : isUnordered k ≡ false) where
+  pub range-refused : (referenceTurn ≤ s .later) ⊎ (referenceTurn ≤ s .earlier) → ratedWith k s ≡ refused 40
+  range-refused (inl h) = rw (ordered, le-leb referenceTurn (s .later) h)
+  range-refused (inr h) = rw (ordered, le-leb referenceTurn (s .earlier) h) (either-way (leb referenceTurn (s .later)) (refused 40))
+
+  module _ (l : s .later < referenceTurn) (e : s .earlier < referenceTurn) where
+    pub bytes-refused : 333599972 < s .bytes → ratedWith k s ≡ refused 80
+    bytes-refused h = rw (ordered, lt-leb referenceTurn (s .later) l, lt-leb referenceTurn (s .earlier) e, lt-ltb 333599972 (s .bytes) h)
+
+    pub equal-refused : s .bytes ≤ 333599972 → s .later ≡ s .earlier → ratedWith k s ≡ refused 81
+    equal-refused h same =
+        rw (ordered, lt-leb referenceTurn (s .later) l, lt-leb referenceTurn (s .earlier) e, le-ltb 333599972 (s .bytes) h, eq-eqb (ticksIn s) 0 (no-ticks s e same))
+
+-- ---- in order
 -- the lower of two is at most the new one, the higher at least
 lower-most : (x old : Float) → isNan x ≡ false → isNan old ≡ false → le (lower x old) x ≡ true
 lower-most x old p q = go (lt x old) refl

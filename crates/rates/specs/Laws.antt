@@ -2,7 +2,7 @@
 use mathlib.Core.Path.{_≡_}
 use mathlib.Core.Bool.{Bool, true, false}
 use mathlib.Core.List.{List, [], _∷_, _++_, map}
-use mathlib.Core.Logic.{_↔_}
+use mathlib.Core.Logic.{_⊎_, _↔_}
 use Prim.Native.Nat.{ℕ, _*_, _^_, _≤_, _<_}
 use lib.IntN.{ℤ, pos}
 use lib.Ieee.{Float, fin, binary64, round, div, ofInt, lt, le, isNan}
@@ -81,7 +81,7 @@ pub record Keeps (k : Known) (rates : List Float) (r : Rates) : Type 0 where
 
 pub record RateLaws : Type 0 where
   -- ---- "both exact before the one division"
-  -- of two whole numbers up to 2^53, each made a double, the quotient is the double nearest to their fraction
+  -- of two whole numbers up to 2^53, each made a double, the quotient is their fraction rounded once
   pub oneDivision : (n d : ℕ) → n ≤ 2 ^ 53 → d ≤ 2 ^ 53 → 0 < d → div binary64 (ofInt binary64 (pos n)) (ofInt binary64 (pos d)) ≡ round binary64 false n d
   -- no other double is as near, so that there is nothing to choose: "fixed bit for bit"
   pub nearest : (s : Stretch) → HasRate s → NearestDouble (s .bytes * 27000000) (ticksOf (s .later) (s .earlier)) (rateAlong s)
@@ -95,7 +95,17 @@ pub record RateLaws : Type 0 where
   -- ---- one call
   -- a record is given exactly where the one before it is in order and the stretch has a rate
   pub givenExactly : (k : Known) (s : Stretch) → ((r : Rates) × (ratedWith k s ≡ given r)) ↔ ((isUnordered k ≡ false) × HasRate s)
-  -- it is in order
+  -- else it is refused: for its record, whatever the stretch
+  pub unorderedRefused : (k : Known) (s : Stretch) → isUnordered k ≡ true → ratedWith k s ≡ refused 82
+  -- then for a reference, whatever the bytes
+  pub rangeRefused : (k : Known) (s : Stretch) → isUnordered k ≡ false → (referenceTurn ≤ s .later) ⊎ (referenceTurn ≤ s .earlier) → ratedWith k s ≡ refused 40
+  -- then for its bytes, whether or not the references differ
+  pub bytesRefused : (k : Known) (s : Stretch) → isUnordered k ≡ false → s .later < referenceTurn → s .earlier < referenceTurn → 333599972 < s .bytes
+      → ratedWith k s ≡ refused 80
+  -- and at last for a difference of 0
+  pub equalRefused : (k : Known) (s : Stretch) → isUnordered k ≡ false → s .later < referenceTurn → s .bytes ≤ 333599972 → s .later ≡ s .earlier
+      → ratedWith k s ≡ refused 81
+  -- a record that was given is in order
   pub ordered : (k : Known) (s : Stretch) (r : Rates) → ratedWith k s ≡ given r → isOrdered r ≡ true
   -- so the next call does not refuse it
   pub goesOn : (k : Known) (s next : Stretch) (r : Rates) → ratedWith k s ≡ given r → ratedWith (known.Record r) next ≡ refused 82 → ⊥
