@@ -6,7 +6,7 @@ use rates::Known;
 use rates::Rated;
 use rates::Rates;
 
-// The double of some bits. A NaN's are all the same here, and the kit makes none of a pattern.
+// The double of some bits. The language makes none of a NaN's pattern, so each of these is made by 0 / 0.
 fn double_of(bits: u64) -> f64 {
     if 0x7FF0_0000_0000_0000 < bits % 0x8000_0000_0000_0000 {
         return 0.0 / 0.0;

@@ -1,14 +1,14 @@
 -- A record is given where no row applies: then the stretch has a rate, which is a finite double, and the record stays in order.
 -- Assumes nothing.
 use mathlib.Core.Path.{_≡_, refl, sym, _∙_, ap}
-use mathlib.Core.Bool.{Bool, true, false, cond, not, _&&_, false≢true}
+use mathlib.Core.Bool.{Bool, true, false, cond, not, false≢true}
 use mathlib.Core.Logic.{_⊎_, inl, inr}
 use Prim.Native.Nat.{ℕ, _+_, _*_, _%_, _^_, _≤_, _<_}
-use native.Mathlib.Nat.{mul-one, mul-le-mul, mul-le-mul-right, le-mul-of-pos-right, pos-of-ne-zero, mod-eq-of-lt, le-of-lt, zero-add, mod-lt}
+use native.Mathlib.Nat.{mul-le-mul, mul-le-mul-right, pos-of-ne-zero, mod-eq-of-lt, le-of-lt, zero-add, mod-lt}
 use native.Mathlib.Omega.{arith}
 use lib.Dec.{leb, eqb, lit<}
 use lib.IntN.{ℤ}
-use lib.Ieee.{Float, nan, inf, fin, binary64, round, lt, le, isNan}
+use lib.Ieee.{Float, nan, inf, fin, binary64, lt, le, isNan}
 use lib.Ieee.Bits.{is-true}
 use lib.Ieee.Exact.{HasValue}
 use lib.Ieee.Order.{round-mono}
@@ -50,6 +50,7 @@ some-ticks s h z =
 no-ticks : (s : Stretch) → s .earlier < referenceTurn → s .later ≡ s .earlier → ticksIn s ≡ 0
 no-ticks s h same = ap (λ (l : ℕ). ticksOf l (s .earlier)) same ∙ clock-sums .self referenceTurn (s .earlier) (le-of-lt h)
 
+-- so above 0
 pub ticks-pos : (s : Stretch) → HasRate s → 0 < ticksIn s
 ticks-pos s h = pos-of-ne-zero (some-ticks s h)
 
@@ -64,12 +65,14 @@ number-of nan a c v = absurd v
 number-of (inf s) a c v = absurd v
 number-of (fin s m e) a c v = (m, e, ap (λ (b : Bool). fin b m e) (v .0))
 
+-- a rate is one
 pub rate-number : (bytes ticks : ℕ) → bytes ≤ 333599972 → 0 < ticks → (m : ℕ) × (e : ℤ) × (byteRate bytes ticks ≡ fin false m e)
 rate-number bytes ticks h p =
     let n = bytes * 27000000 in
     number-of (byteRate bytes ticks) (grid binary64 n ticks) _
     (round-val binary64 n ticks (round-under binary64 n ticks (round-finite binary64 n ticks (omega arith) p)))
 
+-- so no NaN
 pub rate-no-nan : (bytes ticks : ℕ) → bytes ≤ 333599972 → 0 < ticks → isNan (byteRate bytes ticks) ≡ false
 unfolding isNan
 rate-no-nan bytes ticks h p = ap isNan (rate-number bytes ticks h p .2)
@@ -134,6 +137,7 @@ higher-least x old p q = go (lt old x) refl
     go true e = le-self x p
     go false e = total old x q p e
 
+-- so a record in order with a rate more is in order
 with-ordered : (k : Known) (x : Float) → isUnordered k ≡ false → isNan x ≡ false → isOrdered (withRate k x) ≡ true
 with-ordered known.Nothing x e p = true-both (le x x) (le x x) (le-self x p) (le-self x p)
 with-ordered (known.Record r) x e p =

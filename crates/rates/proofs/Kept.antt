@@ -1,15 +1,13 @@
 -- By induction over the calls: the first rate is taken into what is known, and of the others it is known already.
 -- Assumes nothing.
 use mathlib.Core.Path.{_≡_, refl, sym, _∙_, ap, subst}
-use mathlib.Core.Bool.{Bool, true, false, cond, not, _&&_}
+use mathlib.Core.Bool.{Bool, true, false, cond, not}
 use mathlib.Core.List.{List, [], _∷_, _++_, map, nil≢cons}
 use lib.Ieee.{Float, lt, le, isNan}
 use borrow.Author.Tests.{not-false}
-use Rattle.ground.specs.Answer.{given}
 use Rattle.ground.specs.Walk.{Every}
-use Rattle.ground.proofs.Test.{both-true}
-use Rattle.rates.specs.Rate.{isOrdered, isUnordered, withRate}
-use Rattle.rates.specs.Laws.{Stretch, HasRate, rateAlong, ratedWith, RatedAlong, FirstBest, FirstLowest, isAbove, isAtLeast, FirstHighest, Keeps}
+use Rattle.rates.specs.Rate.{isUnordered, withRate}
+use Rattle.rates.specs.Laws.{Stretch, HasRate, rateAlong, RatedAlong, FirstBest, FirstLowest, isAbove, isAtLeast, FirstHighest, Keeps}
 use Rattle.rates.specs.declared.Rates.{Rates}
 use Rattle.rates.specs.declared.Known.{Known}
 use Rattle.rates.specs.declared.Known.the-variants as known
@@ -18,8 +16,11 @@ use Rattle.rates.proofs.Given.{ticks-pos, rate-no-nan, given-has, has-g
 
 -- ---- the first of the best, by any order
 record Order (beats holds : Float → Float → Bool) : Type 0 where
+  -- what beats holds
   weak : (x y : Float) → beats x y ≡ true → holds x y ≡ true
+  -- what is beaten does not hold
   apart : (x y : Float) → beats x y ≡ true → holds y x ≡ true → ⊥
+  -- what beats one that holds against a third beats the third
   through : (x y z : Float) → beats x y ≡ true → holds y z ≡ true → beats x z ≡ true
 
 -- of what stands somewhere in a list
@@ -68,6 +69,7 @@ module _ {beats holds : Float → Float → Bool} (order : Order beats holds) wh
       let tail : rest ≡ front ++ w ∷ back = cc in
       order .apart w v (rw same at b) (among (λ z. holds v z ≡ true) w front back (rw tail at each))
 
+  -- so they are one, wherever the list is parted
   same-split : (v w : Float) (front other back rest : List Float) → front ++ v ∷ back ≡ other ++ w ∷ rest
       → Every (λ y. beats v y ≡ true) front → Every (λ y. beats w y ≡ true) other
       → Every (λ y. holds v y ≡ true) back → Every (λ y. holds w y ≡ true) rest → v ≡ w
@@ -77,6 +79,7 @@ module _ {beats holds : Float → Float → Bool} (order : Order beats holds) wh
   same-split v w (x ∷ front) (y ∷ other) back rest e p q h k =
       let tail : front ++ v ∷ back ≡ other ++ w ∷ rest = cc in same-split v w front other back rest tail (p .1) (q .1) h k
 
+  -- and there is but one
   first-same : (v w : Float) (list : List Float) → FirstBest beats holds v list → FirstBest beats holds w list → v ≡ w
   first-same v w list f g =
       same-split v w (f .earlier) (g .earlier) (f .later) (g .later) (sym (f .split) ∙ g .split) (f .beaten) (g .beaten) (f .held) (g .held)
@@ -141,6 +144,7 @@ keeps k (s ∷ later) r (next, e, rest) =
 abbrev allThree : Float → Float → Float → Rates
 allThree x y z = record { lowest = x; latest = y; highest = z }
 
+-- so no other record meets it
 pub only : (k : Known) (rates : List Float) (r other : Rates) → Keeps k rates r → Keeps k rates other → r ≡ other
 only k rates r other f g =
     let a = first-same down (r .lowest) (other .lowest) _ (f .lowest) (g .lowest) in

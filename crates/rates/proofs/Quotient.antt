@@ -9,7 +9,7 @@ use lib.Dec.{T, eqb, le→leb}
 use lib.IntN.{ℤ, pos}
 use borrow.Author.Tests.{ne-eqb}
 use lib.Ieee.{Float, nan, inf, fin, Format, binary64, prec, inFloat, up, down, unlike, round, div, ofInt}
-use lib.Ieee.Fits.{up-pos, down-pos}
+use lib.Ieee.Fits.{down-pos}
 use lib.Ieee.Exact.{HasValue}
 use lib.Ieee.Back.{round-whole}
 use lib.Ieee.Scale.{round-same}
@@ -29,6 +29,7 @@ unfolding div
 div-is f s t m k e g h =
     ap (λ (b : Bool). cond b (cond (eqb m 0) nan (inf (unlike s t))) (round f (unlike s t) (m * up e * down g) (k * up g * down e))) h
 
+-- by the clause of two numbers, whatever fractions they are written as
 pub quotient : (f : Format) (x y : Float) (n d : ℕ) → HasValue x false n 1 → HasValue y false d 1 → 0 < d → div f x y ≡ round f false n d
 quotient f nan y n d v w p = absurd v
 quotient f (inf s) y n d v w p = absurd v

@@ -1,6 +1,6 @@
 -- Behind the record's row stand the two of the forward difference, which are the clock's own table, and then the others.
 -- Assumes nothing.
-use mathlib.Core.Path.{_≡_, _∙_, ap}
+use mathlib.Core.Path.{_≡_}
 use mathlib.Core.Bool.{true, false}
 use Prim.Native.Nat.{ℕ}
 use Rattle.ground.specs.Answer.{refused, given}

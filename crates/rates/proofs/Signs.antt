@@ -1,9 +1,9 @@
 -- Sizes with a sign are ordered as whole numbers are, with two zeros that are equal; a factor above 0 changes nothing of that.
 -- Assumes nothing.
-use mathlib.Core.Path.{_≡_, refl, sym}
+use mathlib.Core.Path.{_≡_, sym}
 use mathlib.Core.Bool.{Bool, true, false, _&&_, _||_, false≢true}
-use Prim.Native.Nat.{ℕ, _+_, _*_, _≤_, _<_}
-use native.Mathlib.Nat.{add-mul, zero-mul, mul-pos, mul-lt-mul-of-pos-right, lt-of-mul-lt-mul-right, pos-of-ne-zero}
+use Prim.Native.Nat.{ℕ, _+_, _*_, _<_}
+use native.Mathlib.Nat.{add-mul, zero-mul, mul-pos, mul-lt-mul-of-pos-right, lt-of-mul-lt-mul-right}
 use native.Mathlib.Decide.{decLt}
 use native.Mathlib.Omega.{arith}
 use borrow.Author.Tests.{lt-ltb, le-ltb, eq-eqb, ne-eqb, ltb-true, ltb-false}
@@ -18,12 +18,14 @@ Less false a true b = ⊥
 Less true a false b = 0 < a + b
 Less true a true b = b < a
 
+-- the library's test says this
 pub below-less : (s t : Bool) (a b : ℕ) → below s a t b ≡ true → Less s a t b
 below-less false false a b e = ltb-true a b e
 below-less false true a b e = absurd (false≢true e)
 below-less true false a b e = ltb-true 0 (a + b) e
 below-less true true a b e = ltb-true b a e
 
+-- and is passed where it holds
 pub less-below : (s t : Bool) (a b : ℕ) → Less s a t b → below s a t b ≡ true
 less-below false false a b h = lt-ltb a b h
 less-below false true a b h = absurd h

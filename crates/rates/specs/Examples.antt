@@ -2,8 +2,8 @@
 use mathlib.Core.Path.{_≡_}
 use mathlib.Core.List.{List, [], _∷_}
 use Prim.Native.Nat.{ℕ}
-use lib.Ieee.{Float, binary64, toBits, ofBits}
-use Rattle.ground.specs.Answer.{Answer, refused, given}
+use lib.Ieee.{binary64, toBits, ofBits}
+use Rattle.ground.specs.Answer.{refused, given}
 use Rattle.ground.specs.Walk.{Every}
 use Rattle.rates.specs.Rate.{byteRate, rated}
 use Rattle.rates.specs.declared.Rates.{Rates}

@@ -4,12 +4,11 @@ ghost use Prim.Native.Nat.{_≤_, _<_, _^_};
 ghost use Rattle.rates.specs.Rate.{byteRate, isOrdered, isUnordered, lower, higher, withRate, toldRates};
 ghost use Rattle.rates.specs.Steps.{ratedOver};
 ghost use Rattle.rates.specs.Promises.{GivesRate};
-
-pub mod laws;
-
 use clock::reference;
 use clock::reference::Ahead;
 use clock::reference::Reference;
+
+pub mod laws;
 
 // Rates in bytes a second.
 pub struct Rates {

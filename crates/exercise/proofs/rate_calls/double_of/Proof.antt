@@ -1,10 +1,8 @@
 -- With its sign's bit taken off, a pattern that is no more than infinity's is no NaN's.
 -- Assumes nothing.
-use mathlib.Core.Bool.{Bool, not}
 use Prim.Native.Nat.{_%_}
 use native.Mathlib.Omega.{arith}
 use borrow.Author.Tests.{le-ltb}
-use lib.Dec.{T}
 use lib.Ieee.{binary64}
 use lib.Ieee.Bits.{nanBits-above}
 use borrow.Author.Needs.{needs}
