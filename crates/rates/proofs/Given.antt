@@ -12,7 +12,7 @@ use lib.Ieee.{Float, nan, inf, fin, binary64, lt, le, isNan}
 use lib.Ieee.Bits.{is-true}
 use lib.Ieee.Exact.{HasValue}
 use lib.Ieee.Order.{round-mono}
-use lib.Ieee.Scale.{finite, grid, round-under, round-val}
+use lib.Ieee.Scale.{grid, round-under, round-val}
 use borrow.Author.Tests.{ltb-false, lt-ltb, le-ltb, leb-false, le-leb, lt-leb, eqb-false, eq-eqb, ne-eqb, not-false}
 use Rattle.ground.specs.Answer.{Answer, refused, given}
 use Rattle.ground.proofs.Answer.{given-apart, refused-same}
@@ -46,13 +46,13 @@ some-ticks s h z =
     let leads = clock-sums .references .forwardLeads (s .later) (s .earlier) (ticksIn s) (forward-told s (h .laterInRange) (h .earlierInRange)) .1 in
     h .differ (sym leads ∙ ap (λ (t : ℕ). t % referenceTurn) (ap (λ (t : ℕ). t + s .earlier) z ∙ zero-add (s .earlier)) ∙ mod-eq-of-lt (h .earlierInRange))
 
--- where they are equal they are
-no-ticks : (s : Stretch) → s .earlier < referenceTurn → s .later ≡ s .earlier → ticksIn s ≡ 0
-no-ticks s h same = ap (λ (l : ℕ). ticksOf l (s .earlier)) same ∙ clock-sums .self referenceTurn (s .earlier) (le-of-lt h)
-
 -- so above 0
 pub ticks-pos : (s : Stretch) → HasRate s → 0 < ticksIn s
 ticks-pos s h = pos-of-ne-zero (some-ticks s h)
+
+-- where the two are equal they are 0
+no-ticks : (s : Stretch) → s .earlier < referenceTurn → s .later ≡ s .earlier → ticksIn s ≡ 0
+no-ticks s h same = ap (λ (l : ℕ). ticksOf l (s .earlier)) same ∙ clock-sums .self referenceTurn (s .earlier) (le-of-lt h)
 
 -- they are below the turn, so a double exactly
 pub ticks-small : (s : Stretch) → ticksIn s < 2 ^ 53

@@ -28,6 +28,12 @@ pub enum Rated {
     Refused(u8),
 }
 
+// The clock of 27 MHz.
+const TICKS_A_SECOND: u64 = 27_000_000;
+
+// Times the clock's ticks they are below 2^53, up to which every whole number is a double; one more would be above it.
+const MOST_BYTES: u64 = 333_599_972;
+
 // Whether lowest ≤ latest ≤ highest; a NaN is in no order.
 fn is_ordered(r: Rates) -> bool
     ensures { λ b. ⌜ b ≡ isOrdered r ⌝ }
@@ -50,7 +56,7 @@ fn byte_rate(bytes: u64, ticks: u64) -> f64
     requires { ⌜ (bytes ≤ 333599972) × (0 < ticks) × (ticks < 2 ^ 53) ⌝ }
     ensures { λ r. ⌜ r ≡ byteRate bytes ticks ⌝ }
 {
-    ((bytes * 27_000_000) as f64) / (ticks as f64)
+    ((bytes * TICKS_A_SECOND) as f64) / (ticks as f64)
 }
 
 // The lower of two; an equal one leaves the old one, whose bits may differ.
@@ -90,7 +96,7 @@ fn rated_over(known: Known, bytes: u64, ticks: u64) -> Rated
     requires { ⌜ ticks < 2 ^ 53 ⌝ }
     ensures { λ r. ⌜ toldRates r ≡ ratedOver known bytes ticks ⌝ }
 {
-    if 333_599_972 < bytes {
+    if MOST_BYTES < bytes {
         return Rated::Refused(80);
     }
     if ticks == 0 {
