@@ -1,31 +1,31 @@
 -- How doubles are ordered, by cases of NaN, infinity and number; of two numbers by their sizes over one denominator.
 -- Assumes nothing.
 use mathlib.Core.Path.{_≡_, refl, sym, _∙_}
-use mathlib.Core.Bool.{Bool, true, false, not, false≢true}
-use Prim.Native.Nat.{ℕ, _*_, _<_}
+use mathlib.Core.Bool.{Bool, true, false, false≢true}
+use Prim.Native.Nat.{ℕ, _*_}
 use native.Mathlib.Nat.{mul-right-comm}
 use lib.Dec.{T}
 use lib.IntN.{ℤ}
-use lib.Ieee.{Float, nan, inf, fin, up, down, below, lt, eq, le, isNan}
+use lib.Ieee.{Float, nan, inf, fin, up, down, lt, eq, le, isNan}
 use lib.Ieee.Fits.{down-pos}
 use lib.Ieee.Scale.{finite}
-use Rattle.rates.proofs.Signs.{Less, below-less, less-below, less-through, scaled-up, scaled-down, most-other, never-both}
+use Rattle.rates.proofs.Signs.{IsBelow, below-is, is-below, below-through, scaled-up, scaled-down, most-other, never-both}
 
 -- ---- none but a NaN is out of order
 -- of two that are no NaN, where the one is not below the other, the other is at most the one
-pub total : (x y : Float) → isNan x ≡ false → isNan y ≡ false → lt x y ≡ false → le y x ≡ true
+pub not-lt-le : (x y : Float) → isNan x ≡ false → isNan y ≡ false → lt x y ≡ false → le y x ≡ true
 unfolding isNan lt eq le
-total nan y p q e = absurd (false≢true (sym p))
-total (inf s) nan p q e = absurd (false≢true (sym q))
-total (inf true) (inf true) p q e = refl
-total (inf true) (inf false) p q e = absurd (false≢true (sym e))
-total (inf false) (inf true) p q e = refl
-total (inf false) (inf false) p q e = refl
-total (inf s) (fin t n d) p q e = rw e
-total (fin s m e) nan p q r = absurd (false≢true (sym q))
-total (fin s m e) (inf true) p q r = refl
-total (fin s m e) (inf false) p q r = absurd (false≢true (sym r))
-total (fin s m e) (fin t n d) p q r = most-other s t (m * up e * down d) (n * up d * down e) r
+not-lt-le nan y p q e = absurd (false≢true (sym p))
+not-lt-le (inf s) nan p q e = absurd (false≢true (sym q))
+not-lt-le (inf true) (inf true) p q e = refl
+not-lt-le (inf true) (inf false) p q e = absurd (false≢true (sym e))
+not-lt-le (inf false) (inf true) p q e = refl
+not-lt-le (inf false) (inf false) p q e = refl
+not-lt-le (inf s) (fin t n d) p q e = rw e
+not-lt-le (fin s m e) nan p q r = absurd (false≢true (sym q))
+not-lt-le (fin s m e) (inf true) p q r = refl
+not-lt-le (fin s m e) (inf false) p q r = absurd (false≢true (sym r))
+not-lt-le (fin s m e) (fin t n d) p q r = most-other s t (m * up e * down d) (n * up d * down e) r
 
 -- what is compared is no NaN
 pub left-no-nan : (x y : Float) → le x y ≡ true → isNan x ≡ false
@@ -66,7 +66,7 @@ lt-not (fin s m e) (inf false) r = refl
 lt-not (fin s m e) (fin t n d) r =
     let a = m * up e * down d in
     let b = n * up d * down e in
-    never-both s t a b (below-less s t a b r)
+    never-both s t a b (below-is s t a b r)
 
 -- nothing is below itself
 pub lt-self : (x : Float) → lt x x ≡ true → ⊥
@@ -78,7 +78,7 @@ le-self x p = go (lt x x) refl
   where
     go : (b : Bool) → lt x x ≡ b → le x x ≡ true
     go true e = lt-le x x e
-    go false e = total x x p p e
+    go false e = not-lt-le x x p p e
 
 -- what is at most another is not above it
 pub le-not : (x y : Float) → le x y ≡ true → lt y x ≡ true → ⊥
@@ -89,12 +89,12 @@ numbers-through : (s t u : Bool) (m n k : ℕ) (e d g : ℤ) → lt (fin s m e) 
     → lt (fin s m e) (fin u k g) ≡ true
 unfolding lt
 numbers-through s t u m n k e d g h f =
-    let first = scaled-up (down g) (down-pos g) s t (m * up e * down d) (n * up d * down e) (below-less s t _ _ h) in
-    let second : Less u (k * up g * down e * down d) t (n * up d * down e * down g) → ⊥ = λ l. f
-    (less-below u t (k * up g * down d) (n * up d * down g)
+    let first = scaled-up (down g) (down-pos g) s t (m * up e * down d) (n * up d * down e) (below-is s t _ _ h) in
+    let second : IsBelow u (k * up g * down e * down d) t (n * up d * down e * down g) → ⊥ = λ l. f
+    (is-below u t (k * up g * down d) (n * up d * down g)
     (scaled-down (down e) u t _ _ (rw (mul-right-comm (k * up g) (down d) (down e), mul-right-comm (n * up d) (down g) (down e)) l))) in
-    less-below s u (m * up e * down g) (k * up g * down e)
-    (scaled-down (down d) s u _ _ (rw (mul-right-comm (m * up e) (down g) (down d)) (less-through s t u _ _ _ first second)))
+    is-below s u (m * up e * down g) (k * up g * down e)
+    (scaled-down (down d) s u _ _ (rw (mul-right-comm (m * up e) (down g) (down d)) (below-through s t u _ _ _ first second)))
 
 -- x < y ≤ z
 pub lt-through : (x y z : Float) → lt x y ≡ true → le y z ≡ true → lt x z ≡ true
@@ -131,7 +131,7 @@ le-through x y z e f = go (lt x z) refl
     go : (b : Bool) → lt x z ≡ b → lt x z ≡ true
     go true g = g
     go false g =
-        absurd (le-not x y e (lt-through y z x f (total x z (left-no-nan x y e) (right-no-nan y z (lt-le y z f)) g)))
+        absurd (le-not x y e (lt-through y z x f (not-lt-le x z (left-no-nan x y e) (right-no-nan y z (lt-le y z f)) g)))
 
 -- ---- what lies between two finite ones is finite
 pub finite-between : (lo x hi : Float) → T (finite lo) → T (finite hi) → T (le lo x) → T (le x hi) → T (finite x)

@@ -10,7 +10,7 @@ examples =
     record {
       rates = (refl, (refl, (refl, (refl, (refl, (refl, (refl, (refl, (refl, tt)))))))));
       first = refl;
-      second = refl;
+      lowered = refl;
       zeroKept = refl;
       endsKept = refl;
       highestKept = refl;

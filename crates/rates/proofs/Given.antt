@@ -23,11 +23,11 @@ use Rattle.clock.specs.Range.{referenceTurn}
 use Rattle.clock.specs.Difference.{referenceForwardRefusals, referenceForward}
 use Rattle.clock.proofs.ClockSums.{clock-sums}
 use Rattle.rates.specs.Rate.{byteRate, ticksOf, isOrdered, isUnordered, lower, higher, withRate, rateRefusals}
-use Rattle.rates.specs.Laws.{Stretch, HasRate, rateAlong, ratedWith}
+use Rattle.rates.specs.Laws.{Stretch, Ordered, HasRate, rateAlong, ratedWith}
 use Rattle.rates.specs.declared.Rates.{Rates}
 use Rattle.rates.specs.declared.Known.{Known}
 use Rattle.rates.specs.declared.Known.the-variants as known
-use Rattle.rates.proofs.Doubles.{total, le-self, left-no-nan, right-no-nan}
+use Rattle.rates.proofs.Doubles.{not-lt-le, le-self, left-no-nan, right-no-nan}
 use Rattle.rates.proofs.Nearest.{round-finite}
 
 -- ---- the ticks
@@ -84,6 +84,26 @@ rate-rises bytes more ticks fewer h k p =
     (round-mono binary64 (bytes * 27000000) ticks (more * 27000000) fewer (omega arith) p
     (mul-le-mul (mul-le-mul-right 27000000 h) k))
 
+-- ---- the test of a record's order
+pub record-order : (r : Rates) → isOrdered r ≡ true → Ordered (known.Record r)
+record-order r e = both-true (le (r .lowest) (r .latest)) (le (r .latest) (r .highest)) e
+
+-- it is passed exactly where the order is there
+pub passes-order : (k : Known) → isUnordered k ≡ false → Ordered k
+passes-order known.Nothing e = tt
+passes-order (known.Record r) e = record-order r (not-false (isOrdered r) e)
+
+pub order-passes : (k : Known) → Ordered k → isUnordered k ≡ false
+order-passes known.Nothing o = refl
+order-passes (known.Record r) o = ap not (true-both (le (r .lowest) (r .latest)) (le (r .latest) (r .highest)) (o .0) (o .1))
+
+pub unordered-fails : (k : Known) → (Ordered k → ⊥) → isUnordered k ≡ true
+unordered-fails k never = go (isUnordered k) refl
+  where
+    go : (b : Bool) → isUnordered k ≡ b → isUnordered k ≡ true
+    go true e = e
+    go false e = absurd (never (passes-order k e))
+
 -- ---- the record
 -- it is given with no row, and the rows say that the stretch has a rate
 pub given-has : (k : Known) (s : Stretch) (r : Rates) → ratedWith k s ≡ given r
@@ -128,20 +148,20 @@ lower-most x old p q = go (lt x old) refl
   where
     go : (b : Bool) → lt x old ≡ b → le (cond b x old) x ≡ true
     go true e = le-self x p
-    go false e = total x old p q e
+    go false e = not-lt-le x old p q e
 
 higher-least : (x old : Float) → isNan x ≡ false → isNan old ≡ false → le x (higher x old) ≡ true
 higher-least x old p q = go (lt old x) refl
   where
     go : (b : Bool) → lt old x ≡ b → le x (cond b x old) ≡ true
     go true e = le-self x p
-    go false e = total old x q p e
+    go false e = not-lt-le old x q p e
 
 -- so a record in order with a rate more is in order
 with-ordered : (k : Known) (x : Float) → isUnordered k ≡ false → isNan x ≡ false → isOrdered (withRate k x) ≡ true
 with-ordered known.Nothing x e p = true-both (le x x) (le x x) (le-self x p) (le-self x p)
 with-ordered (known.Record r) x e p =
-    let order = both-true (le (r .lowest) (r .latest)) (le (r .latest) (r .highest)) (not-false _ e) in
+    let order = passes-order (known.Record r) e in
     true-both (le (lower x (r .lowest)) x) (le x (higher x (r .highest)))
     (lower-most x (r .lowest) p (left-no-nan (r .lowest) (r .latest) (order .0)))
     (higher-least x (r .highest) p (right-no-nan (r .latest) (r .highest) (order .1)))

@@ -1,18 +1,18 @@
 -- By induction over the calls: the first rate is taken into what is known, and of the others it is known already.
 -- Assumes nothing.
 use mathlib.Core.Path.{_≡_, refl, sym, _∙_, ap, subst}
-use mathlib.Core.Bool.{Bool, true, false, cond, not}
+use mathlib.Core.Bool.{Bool, true, false, cond}
 use mathlib.Core.List.{List, [], _∷_, _++_, map, nil≢cons}
 use lib.Ieee.{Float, lt, le, isNan}
 use borrow.Author.Tests.{not-false}
 use Rattle.ground.specs.Walk.{Every}
 use Rattle.rates.specs.Rate.{isUnordered, withRate}
-use Rattle.rates.specs.Laws.{Stretch, HasRate, rateAlong, RatedAlong, FirstBest, FirstLowest, isAbove, isAtLeast, FirstHighest, Keeps}
+use Rattle.rates.specs.Laws.{Stretch, Ordered, HasRate, rateAlong, RatedAlong, FirstBest, FirstLowest, isAbove, isAtLeast, FirstHighest, Keeps}
 use Rattle.rates.specs.declared.Rates.{Rates}
 use Rattle.rates.specs.declared.Known.{Known}
 use Rattle.rates.specs.declared.Known.the-variants as known
-use Rattle.rates.proofs.Doubles.{total, lt-le, le-not, lt-through, le-through}
-use Rattle.rates.proofs.Given.{ticks-pos, rate-no-nan, given-has, has-given, given-ordered, ordered-numbers}
+use Rattle.rates.proofs.Doubles.{not-lt-le, lt-le, le-not, lt-through, le-through}
+use Rattle.rates.proofs.Given.{ticks-pos, rate-no-nan, given-has, has-given, record-order, order-passes, given-ordered, ordered-numbers}
 
 -- ---- the first of the best, by any order
 record Order (beats holds : Float → Float → Bool) : Type 0 where
@@ -85,11 +85,11 @@ module _ {beats holds : Float → Float → Bool} (order : Order beats holds) wh
       same-split v w (f .earlier) (g .earlier) (f .later) (g .later) (sym (f .split) ∙ g .split) (f .beaten) (g .beaten) (f .held) (g .held)
 
 -- ---- both ways round
-down : Order lt le
-down = record { weak = lt-le; apart = λ x y b h. le-not y x h b; through = lt-through }
+lowest-first : Order lt le
+lowest-first = record { weak = lt-le; apart = λ x y b h. le-not y x h b; through = lt-through }
 
-up : Order isAbove isAtLeast
-up = record { weak = λ x y. lt-le y x; apart = λ x y b h. le-not x y h b; through = λ x y z b h. le-through z y x h b }
+highest-first : Order isAbove isAtLeast
+highest-first = record { weak = λ x y. lt-le y x; apart = λ x y b h. le-not x y h b; through = λ x y z b h. le-through z y x h b }
 
 -- ---- a list has one last
 -- with something in it
@@ -120,13 +120,13 @@ one-more (known.Record old) x rates r e p f =
     numbers = ordered-numbers old (not-false _ e)
 
     below : (b : Bool) → lt x (old .lowest) ≡ b → FirstLowest (r .lowest) (cond b x (old .lowest) ∷ rates) → FirstLowest (r .lowest) (old .lowest ∷ x ∷ rates)
-    below true g = taken down (old .lowest) x (r .lowest) rates g
-    below false g = stays down (old .lowest) x (r .lowest) rates (total x (old .lowest) p (numbers .0) g)
+    below true g = taken lowest-first (old .lowest) x (r .lowest) rates g
+    below false g = stays lowest-first (old .lowest) x (r .lowest) rates (not-lt-le x (old .lowest) p (numbers .0) g)
 
     above : (b : Bool) → lt (old .highest) x ≡ b → FirstHighest (r .highest) (cond b x (old .highest) ∷ rates)
         → FirstHighest (r .highest) (old .highest ∷ x ∷ rates)
-    above true g = taken up (old .highest) x (r .highest) rates g
-    above false g = stays up (old .highest) x (r .highest) rates (total (old .highest) x (numbers .2) p g)
+    above true g = taken highest-first (old .highest) x (r .highest) rates g
+    above false g = stays highest-first (old .highest) x (r .highest) rates (not-lt-le (old .highest) x (numbers .2) p g)
 
 -- of one alone
 one-alone : {beats holds : Float → Float → Bool} (x : Float) → FirstBest beats holds x (x ∷ [])
@@ -147,17 +147,17 @@ allThree x y z = record { lowest = x; latest = y; highest = z }
 -- so no other record meets it
 pub only : (k : Known) (rates : List Float) (r other : Rates) → Keeps k rates r → Keeps k rates other → r ≡ other
 only k rates r other f g =
-    let a = first-same down (r .lowest) (other .lowest) _ (f .lowest) (g .lowest) in
+    let a = first-same lowest-first (r .lowest) (other .lowest) _ (f .lowest) (g .lowest) in
     let b = last-same (r .latest) (other .latest) (f .latest .0) (g .latest .0) (sym (f .latest .1) ∙ g .latest .1) in
-    let c = first-same up (r .highest) (other .highest) _ (f .highest) (g .highest) in
+    let c = first-same highest-first (r .highest) (other .highest) _ (f .highest) (g .highest) in
     let same : allThree (r .lowest) (r .latest) (r .highest) ≡ allThree (other .lowest) (other .latest) (other .highest) = cc in
     same
 
 -- nothing ends the calls but a stretch that has no rate
-pub runs : (k : Known) (stretches : List Stretch) → isUnordered k ≡ false → Every HasRate stretches → (l : Known) × RatedAlong k stretches l
+pub runs : (k : Known) (stretches : List Stretch) → Ordered k → Every HasRate stretches → (l : Known) × RatedAlong k stretches l
 runs k [] e each = (k, refl)
 runs k (s ∷ later) e each =
     let next = withRate k (rateAlong s) in
-    let is = has-given k s e (each .0) in
-    let on = runs (known.Record next) later (ap not (given-ordered k s next is)) (each .1) in
+    let is = has-given k s (order-passes k e) (each .0) in
+    let on = runs (known.Record next) later (record-order next (given-ordered k s next is)) (each .1) in
     (on .0, (next, is, on .1))

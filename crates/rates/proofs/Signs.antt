@@ -12,44 +12,44 @@ use lib.Ieee.{below, level}
 use Rattle.ground.proofs.Test.{and-false}
 
 -- ±a < ±b
-abbrev pub Less : Bool → ℕ → Bool → ℕ → Type 0
-Less false a false b = a < b
-Less false a true b = ⊥
-Less true a false b = 0 < a + b
-Less true a true b = b < a
+abbrev pub IsBelow : Bool → ℕ → Bool → ℕ → Type 0
+IsBelow false a false b = a < b
+IsBelow false a true b = ⊥
+IsBelow true a false b = 0 < a + b
+IsBelow true a true b = b < a
 
 -- the library's test says this
-pub below-less : (s t : Bool) (a b : ℕ) → below s a t b ≡ true → Less s a t b
-below-less false false a b e = ltb-true a b e
-below-less false true a b e = absurd (false≢true e)
-below-less true false a b e = ltb-true 0 (a + b) e
-below-less true true a b e = ltb-true b a e
+pub below-is : (s t : Bool) (a b : ℕ) → below s a t b ≡ true → IsBelow s a t b
+below-is false false a b e = ltb-true a b e
+below-is false true a b e = absurd (false≢true e)
+below-is true false a b e = ltb-true 0 (a + b) e
+below-is true true a b e = ltb-true b a e
 
 -- and is passed where it holds
-pub less-below : (s t : Bool) (a b : ℕ) → Less s a t b → below s a t b ≡ true
-less-below false false a b h = lt-ltb a b h
-less-below false true a b h = absurd h
-less-below true false a b h = lt-ltb 0 (a + b) h
-less-below true true a b h = lt-ltb b a h
+pub is-below : (s t : Bool) (a b : ℕ) → IsBelow s a t b → below s a t b ≡ true
+is-below false false a b h = lt-ltb a b h
+is-below false true a b h = absurd h
+is-below true false a b h = lt-ltb 0 (a + b) h
+is-below true true a b h = lt-ltb b a h
 
 -- ±a < ±b and not ±c < ±b: ±a < ±c
-pub less-through : (s t u : Bool) (a b c : ℕ) → Less s a t b → (Less u c t b → ⊥) → Less s a u c
-less-through false false false a b c h g = omega arith
-less-through false false true a b c h g = omega arith
-less-through false true u a b c h g = absurd h
-less-through true false false a b c h g = omega arith
-less-through true false true a b c h g = omega arith
-less-through true true false a b c h g = omega arith
-less-through true true true a b c h g = omega arith
+pub below-through : (s t u : Bool) (a b c : ℕ) → IsBelow s a t b → (IsBelow u c t b → ⊥) → IsBelow s a u c
+below-through false false false a b c h g = omega arith
+below-through false false true a b c h g = omega arith
+below-through false true u a b c h g = absurd h
+below-through true false false a b c h g = omega arith
+below-through true false true a b c h g = omega arith
+below-through true true false a b c h g = omega arith
+below-through true true true a b c h g = omega arith
 
 -- ---- a factor above 0
-pub scaled-up : (k : ℕ) → 0 < k → (s t : Bool) (a b : ℕ) → Less s a t b → Less s (a * k) t (b * k)
+pub scaled-up : (k : ℕ) → 0 < k → (s t : Bool) (a b : ℕ) → IsBelow s a t b → IsBelow s (a * k) t (b * k)
 scaled-up k p false false a b h = mul-lt-mul-of-pos-right h p
 scaled-up k p false true a b h = absurd h
 scaled-up k p true false a b h = rw (sym (add-mul a b k)) (mul-pos h p)
 scaled-up k p true true a b h = mul-lt-mul-of-pos-right h p
 
-pub scaled-down : (k : ℕ) (s t : Bool) (a b : ℕ) → Less s (a * k) t (b * k) → Less s a t b
+pub scaled-down : (k : ℕ) (s t : Bool) (a b : ℕ) → IsBelow s (a * k) t (b * k) → IsBelow s a t b
 scaled-down k false false a b h = lt-of-mul-lt-mul-right k h
 scaled-down k false true a b h = absurd h
 scaled-down k true false a b h = lt-of-mul-lt-mul-right k (rw (zero-mul k, add-mul a b k) h)
@@ -76,7 +76,7 @@ most-other true true a b e = order (decLt a b)
     order (no h) = let g = ltb-false b a e in rw (le-ltb a b (omega arith), eq-eqb b a (omega arith))
 
 -- and where it holds, ±b is not
-pub never-both : (s t : Bool) (a b : ℕ) → Less s a t b → (below t b s a || level t b s a) ≡ false
+pub never-both : (s t : Bool) (a b : ℕ) → IsBelow s a t b → (below t b s a || level t b s a) ≡ false
 never-both false false a b h = rw (le-ltb b a (omega arith), ne-eqb b a (omega arith))
 never-both false true a b h = absurd h
 never-both true false a b h = zero (decLt 0 b)

@@ -49,7 +49,7 @@ pub record Examples : Type 0 where
   -- "The first rate comes with no record and fills all three"; and over the turn
   pub first : rated known.Nothing 188 0 2576980377599 ≡ given (ratesOf 0x41F2E8D9D0000000 0x41F2E8D9D0000000 0x41F2E8D9D0000000)
   -- a lower one
-  pub second : rated (recordOf 0x40B3D40000000000 0x40B3D40000000000 0x40B3D40000000000) 188 2000000 0
+  pub lowered : rated (recordOf 0x40B3D40000000000 0x40B3D40000000000 0x40B3D40000000000) 188 2000000 0
       ≡ given (ratesOf 0x40A3D40000000000 0x40A3D40000000000 0x40B3D40000000000)
   -- (−0, 0, 1) keeps −0 beside a rate of 0, and (−∞, 0, ∞) keeps both ends
   pub zeroKept : rated (recordOf 0x8000000000000000 0 0x3FF0000000000000) 0 1 0 ≡ given (ratesOf 0x8000000000000000 0 0x3FF0000000000000)

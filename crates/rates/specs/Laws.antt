@@ -10,7 +10,7 @@ use Rattle.ground.specs.Answer.{Answer, refused, given}
 use Rattle.ground.specs.Walk.{Every}
 use Rattle.clock.specs.Range.{referenceTurn}
 use Rattle.clock.specs.Difference.{referenceForward}
-use Rattle.rates.specs.Rate.{byteRate, ticksOf, isOrdered, isUnordered, rated}
+use Rattle.rates.specs.Rate.{byteRate, ticksOf, isOrdered, rated}
 use Rattle.rates.specs.Nearest.{NearestDouble}
 use Rattle.rates.specs.Examples.{Examples}
 use Rattle.rates.specs.declared.Rates.{Rates}
@@ -30,6 +30,11 @@ rateAlong s = byteRate (s .bytes) (ticksOf (s .later) (s .earlier))
 -- what the call gives for it
 abbrev pub ratedWith : Known → Stretch → Answer Rates
 ratedWith k s = rated k (s .bytes) (s .later) (s .earlier)
+
+-- what is known is in order: nothing, or a record in which lowest ≤ latest ≤ highest, as doubles are compared
+abbrev pub Ordered : Known → Type 0
+Ordered known.Nothing = Unit {0}
+Ordered (known.Record r) = (le (r .lowest) (r .latest) ≡ true) × (le (r .latest) (r .highest) ≡ true)
 
 -- it has a rate: both references are in range and differ, and the bytes are no more than can be made a double exactly
 pub record HasRate (s : Stretch) : Type 0 where
@@ -94,19 +99,19 @@ pub record RateLaws : Type 0 where
   pub forward : (s : Stretch) → HasRate s → (referenceForward (s .later) (s .earlier) ≡ given (ticksOf (s .later) (s .earlier))) × (0 < ticksOf (s .later) (s .earlier))
   -- ---- one call
   -- a record is given exactly where the one before it is in order and the stretch has a rate
-  pub givenExactly : (k : Known) (s : Stretch) → ((r : Rates) × (ratedWith k s ≡ given r)) ↔ ((isUnordered k ≡ false) × HasRate s)
+  pub givenExactly : (k : Known) (s : Stretch) → ((r : Rates) × (ratedWith k s ≡ given r)) ↔ (Ordered k × HasRate s)
   -- else it is refused: for its record, whatever the stretch
-  pub unorderedRefused : (k : Known) (s : Stretch) → isUnordered k ≡ true → ratedWith k s ≡ refused 82
+  pub unorderedRefused : (k : Known) (s : Stretch) → (Ordered k → ⊥) → ratedWith k s ≡ refused 82
   -- then for a reference, whatever the bytes
-  pub rangeRefused : (k : Known) (s : Stretch) → isUnordered k ≡ false → (referenceTurn ≤ s .later) ⊎ (referenceTurn ≤ s .earlier) → ratedWith k s ≡ refused 40
+  pub rangeRefused : (k : Known) (s : Stretch) → Ordered k → (referenceTurn ≤ s .later) ⊎ (referenceTurn ≤ s .earlier) → ratedWith k s ≡ refused 40
   -- then for its bytes, whether or not the references differ
-  pub bytesRefused : (k : Known) (s : Stretch) → isUnordered k ≡ false → s .later < referenceTurn → s .earlier < referenceTurn → 333599972 < s .bytes
+  pub bytesRefused : (k : Known) (s : Stretch) → Ordered k → s .later < referenceTurn → s .earlier < referenceTurn → 333599972 < s .bytes
       → ratedWith k s ≡ refused 80
   -- and at last for a difference of 0
-  pub equalRefused : (k : Known) (s : Stretch) → isUnordered k ≡ false → s .later < referenceTurn → s .bytes ≤ 333599972 → s .later ≡ s .earlier
+  pub equalRefused : (k : Known) (s : Stretch) → Ordered k → s .later < referenceTurn → s .bytes ≤ 333599972 → s .later ≡ s .earlier
       → ratedWith k s ≡ refused 81
   -- a record that was given is in order
-  pub ordered : (k : Known) (s : Stretch) (r : Rates) → ratedWith k s ≡ given r → isOrdered r ≡ true
+  pub ordered : (k : Known) (s : Stretch) (r : Rates) → ratedWith k s ≡ given r → (isOrdered r ≡ true) × Ordered (known.Record r)
   -- so the next call does not refuse it
   pub goesOn : (k : Known) (s next : Stretch) (r : Rates) → ratedWith k s ≡ given r → ratedWith (known.Record r) next ≡ refused 82 → ⊥
   -- and none of its doubles is a NaN
@@ -114,7 +119,7 @@ pub record RateLaws : Type 0 where
       → (isNan (r .lowest) ≡ false) × (isNan (r .latest) ≡ false) × (isNan (r .highest) ≡ false)
   -- ---- any number of calls
   -- nothing but a stretch that has no rate ends them
-  pub runs : (k : Known) (stretches : List Stretch) → isUnordered k ≡ false → Every HasRate stretches → (l : Known) × RatedAlong k stretches l
+  pub runs : (k : Known) (stretches : List Stretch) → Ordered k → Every HasRate stretches → (l : Known) × RatedAlong k stretches l
   -- "Keep lowest, latest and highest"; "an equal lowest or highest keeps its old bits"
   pub keeps : (k : Known) (stretches : List Stretch) (r : Rates) → RatedAlong k stretches (known.Record r) → Keeps k (map rateAlong stretches) r
   -- no other record would do
