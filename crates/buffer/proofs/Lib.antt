@@ -1,0 +1,16 @@
+pub mod Busy
+pub mod Agrees
+pub mod Walking
+pub mod Rising
+pub mod Levels
+pub mod Tracked
+pub mod LastEmpty
+pub mod Rules
+pub mod Found
+pub mod Counted
+pub mod Named
+pub mod Others
+pub mod Spaced
+pub mod Examples
+pub mod BufferLaws
+pub mod Claims
