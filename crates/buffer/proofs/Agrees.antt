@@ -1,6 +1,6 @@
 -- The walk's verdict is the ticket's: after some records either no rule is broken yet, and what is kept is the buffer, or the verdict is settled, and only a tick below the one before counts.
 -- Assumes nothing.
-use mathlib.Core.Path.{_≡_, refl, sym, _∙_, ap}
+use mathlib.Core.Path.{_≡_, refl, sym, _∙_}
 use mathlib.Core.Bool.{Bool, true, false, cond, _||_}
 use mathlib.Core.List.{List, [], _∷_}
 use Prim.Native.Nat.{ℕ, suc, _+_, _≤_}

@@ -1,12 +1,11 @@
 -- While the buffer is busy it drains one a tick, so what is left to drain is 20,304 for each packet since it was last found empty: the second rule is broken by the 1,330th of them, and by no earlier one.
 -- Assumes nothing.
 use mathlib.Core.Path.{_≡_, sym, _∙_}
-use mathlib.Core.Bool.{Bool, true, false, cond}
-use Prim.Native.Nat.{ℕ, suc, _+_, _-_, _*_, _≤_, _<_}
+use Prim.Native.Nat.{ℕ, _+_, _-_, _*_, _≤_, _<_}
 use native.Mathlib.Decide.{decLt, ℕ-discrete}
 use native.Mathlib.Omega.{arith}
 use borrow.Author.Tests.{lt-ltb, le-ltb, eq-eqb, ne-eqb}
-use lib.Dec.{ltb, eqb}
+use lib.Dec.{ltb}
 use Rattle.buffer.specs.Verdict.{Buffer, emptyBuffer, leftAt, arrive, isTooLate}
 use Rattle.buffer.specs.Model.{busyWith}
 

@@ -1,9 +1,9 @@
 -- The second rule by the count of packets since the last that found the buffer empty: the 1,330th is the first to break it.
 -- Assumes nothing.
-use mathlib.Core.Path.{_≡_, refl, sym, _∙_, ap}
+use mathlib.Core.Path.{_≡_, sym, _∙_, ap}
 use mathlib.Core.Bool.{Bool, true, false, cond}
 use mathlib.Core.List.{List, [], _∷_}
-use Prim.Native.Nat.{ℕ, suc, _+_, _*_, _≤_, _<_}
+use Prim.Native.Nat.{ℕ, suc, _+_, _*_, _≤_}
 use native.Mathlib.Omega.{arith}
 use borrow.Author.Tests.{ltb-true, ltb-false}
 use lib.Dec.{ltb, eqb}
@@ -14,7 +14,7 @@ use Rattle.buffer.specs.Ticks.{upTo, Along, LastEmpty, KeepsRules, TooLa
 use Rattle.buffer.specs.Laws.{bufferAfter, busyCount}
 use Rattle.buffer.specs.declared.Record.{Record}
 use Rattle.buffer.proofs.Busy.{Busy, busy-none, busy-next, late-by-count}
-use Rattle.buffer.proofs.Rising.{Steady, rises-steady, steady-front}
+use Rattle.buffer.proofs.Rising.{Steady, rises-steady}
 use Rattle.buffer.proofs.Tracked.{Tracks, tracks-none, tracks-next}
 use Rattle.buffer.proofs.LastEmpty.{told-last}
 use Rattle.buffer.proofs.Rules.{keeps-tests, late-tests}

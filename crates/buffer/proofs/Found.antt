@@ -7,7 +7,7 @@ use mathlib.Core.Logic.{_↔_}
 use Prim.Native.Nat.{ℕ, _≤_}
 use native.Mathlib.Omega.{arith}
 use lib.Seq.{append-snoc}
-use Rattle.ground.specs.Answer.{Answer, refused, given}
+use Rattle.ground.specs.Answer.{refused, given}
 use Rattle.buffer.specs.Verdict.{Finding, passes, overruns, lingers, Arrival, arrivals, Buffer, emptyBuffer, arrive, isTooHigh, isTooLate, firstBreak, goesBack, verdictOf}
 use Rattle.buffer.specs.Ticks.{upTo, Along, KeepsRules, TooHigh, TooLate, FirstTo, Finds, Falls, Rises}
 use Rattle.buffer.specs.Laws.{bufferAfter}

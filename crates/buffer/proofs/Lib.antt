@@ -1,6 +1,7 @@
 pub mod Busy
 pub mod Agrees
 pub mod Walking
+pub mod Answered
 pub mod Rising
 pub mod Levels
 pub mod Tracked

@@ -2,18 +2,17 @@
 -- Assumes nothing.
 use mathlib.Core.Path.{_≡_, refl, sym, _∙_, ap}
 use mathlib.Core.Bool.{Bool, true, false, cond, _||_}
-use mathlib.Core.List.{List, [], _∷_, _++_, map, map-append, append-assoc, append-nil}
-use Prim.Native.Nat.{ℕ, suc, _+_, _≤_, _<_}
-use native.Mathlib.Nat.{add-zero}
+use mathlib.Core.List.{List, [], _∷_, _++_, map, map-append, append-nil}
+use Prim.Native.Nat.{ℕ, suc, _+_, _≤_}
 use native.Mathlib.Omega.{arith}
 use borrow.Author.Tests.{lt-ltb, le-ltb}
 use lib.Dec.{ltb}
-use lib.ListN.{length, take, length-append}
+use lib.ListN.{length, length-append}
 use lib.Seq.{append-snoc, take-append-seam}
-use Rattle.ground.specs.Answer.{Answer, refused, given}
+use Rattle.ground.specs.Answer.{refused, given}
 use Rattle.ground.specs.Walk.{count, keep, Every}
 use Rattle.ground.proofs.Walk.{total-append}
-use Rattle.buffer.specs.Verdict.{Finding, passes, overruns, lingers, Arrival, isOf, arrivals, Buffer, emptyBuffer, arrive, isTooHigh, isTooLate, firstBreak, goesBack, verdictOf}
+use Rattle.buffer.specs.Verdict.{overruns, lingers, Arrival, isOf, arrivals, Buffer, emptyBuffer, arrive, isTooHigh, isTooLate, firstBreak, goesBack, verdictOf}
 use Rattle.buffer.specs.Laws.{renamed, retold, ownBefore, movedOn}
 use Rattle.buffer.specs.declared.Record.{Record}
 use Rattle.buffer.proofs.Named.{arrivals-append}

@@ -6,7 +6,7 @@ use mathlib.Core.List.{List, [], _∷_, _++_}
 use Prim.Native.Nat.{ℕ, suc, _+_, _-_, _≤_, _<_}
 use native.Mathlib.Omega.{arith}
 use borrow.Author.Tests.{lt-ltb, le-ltb, ltb-true, ltb-false}
-use Rattle.buffer.specs.Verdict.{Arrival, Buffer, leftAt, arrive, isTooHigh, isTooLate}
+use Rattle.buffer.specs.Verdict.{Arrival, Buffer, arrive, isTooHigh, isTooLate}
 use Rattle.buffer.specs.Ticks.{levelAt, upTo, ticksOf, leftBy, LastEmpty, AtTheEnd, KeepsRules, TooHigh, TooLate}
 use Rattle.buffer.proofs.Tracked.{Tracks, tracks-next, tracked, left-is}
 use Rattle.buffer.proofs.LastEmpty.{last-empty, told-last}

@@ -1,11 +1,11 @@
 -- Packets that come when the one before has drained find the buffer empty; three at one tick are more than it holds.
 -- Assumes nothing.
-use mathlib.Core.Path.{_≡_, refl, sym, _∙_, ap}
+use mathlib.Core.Path.{_≡_, refl, _∙_, ap}
 use mathlib.Core.Bool.{false}
 use mathlib.Core.List.{List, [], _∷_, _++_}
-use Prim.Native.Nat.{ℕ, _+_, _-_, _≤_, _<_}
+use Prim.Native.Nat.{ℕ, _+_, _-_, _≤_}
 use native.Mathlib.Omega.{arith}
-use borrow.Author.Tests.{lt-ltb, le-ltb, eq-eqb}
+use borrow.Author.Tests.{le-ltb, eq-eqb}
 use lib.Seq.{append-snoc}
 use Rattle.ground.specs.Answer.{given}
 use Rattle.buffer.specs.Verdict.{passes, Arrival, arrivals, Buffer, emptyBuffer, leftAt, arrive, isTooHigh, isTooLate, firstBreak, verdictOf}

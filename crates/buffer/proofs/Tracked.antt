@@ -1,13 +1,11 @@
 -- The buffer from packet to packet is the level tick by tick: at each tick from the last packet on, and not empty from the last packet that found it empty until it has drained.
 -- Assumes nothing.
 use mathlib.Core.Path.{_≡_, refl, sym, _∙_, ap}
-use mathlib.Core.Bool.{cond}
-use mathlib.Core.List.{List, [], _∷_, _++_, map, map-append}
+use mathlib.Core.List.{List, [], _∷_, _++_, map-append}
 use Prim.Native.Nat.{ℕ, _+_, _-_, _≤_, _<_}
 use native.Mathlib.Decide.{decLt, ℕ-discrete}
 use native.Mathlib.Omega.{arith}
 use borrow.Author.Tests.{eq-eqb, ne-eqb}
-use lib.Dec.{eqb}
 use Rattle.ground.specs.Walk.{Every}
 use Rattle.ground.proofs.Walk.{every-append}
 use Rattle.buffer.specs.Verdict.{Arrival, Buffer, emptyBuffer, leftAt, arrive}
@@ -84,35 +82,33 @@ module _ (packets : List Arrival) (b : Buffer) (a : Arrival) (h : Tracks packets
   next-steady : Steady 0 (upTo packets a)
   next-steady = steady-more emptyBuffer packets a (h .steady) (rw (h .is) k)
 
+  -- the level is above 0 from its tick until it has drained, and where it was so before, from then on
+  stays-busy : (since t : ℕ) → since ≤ t → t < a .tick + (leftAt b (a .tick) + 20304) → (t < a .tick → 0 < levelAt (ticksOf packets) t)
+      → 0 < levelAt (ticksOf (upTo packets a)) t
+  stays-busy since t l m earlier = now (decLt t (a .tick))
+    where
+      now : Dec (t < a .tick) → 0 < levelAt (ticksOf (upTo packets a)) t
+      now (yes less) = rw (before t less) (earlier less)
+      now (no more) = let e = behind t (omega arith) in omega arith
+
+  -- by the tick of the last packet that found the buffer empty
+  tracks-since : (since : ℕ) → arrive b (a .tick) .since ≡ since → since ≤ a .tick → ((t : ℕ) → since ≤ t → t < a .tick → 0 < levelAt (ticksOf packets) t)
+      → Tracks (upTo packets a) (arrive b (a .tick))
+  tracks-since since e early earlier =
+      record {
+        is = next-is;
+        steady = next-steady;
+        bound = bounded;
+        level = left-is;
+        early = rw e early;
+        busy = λ t l m. let k : since ≤ t = rw (← e) l in stays-busy since t k m (earlier t k);
+      }
+
   pub tracks-next : Tracks (upTo packets a) (arrive b (a .tick))
   tracks-next = go (ℕ-discrete (leftAt b (a .tick)) 0)
     where
-      busy : (since t : ℕ) → since ≤ t → t < a .tick + (leftAt b (a .tick) + 20304) → ((t < a .tick) → 0 < levelAt (ticksOf packets) t)
-          → 0 < levelAt (ticksOf (upTo packets a)) t
-      busy since t l m earlier = now (decLt t (a .tick))
-        where
-          now : Dec (t < a .tick) → 0 < levelAt (ticksOf (upTo packets a)) t
-          now (yes less) = rw (before t less) (earlier less)
-          now (no more) = let e = behind t (omega arith) in omega arith
-
       go : Dec (leftAt b (a .tick) ≡ 0) → Tracks (upTo packets a) (arrive b (a .tick))
-      go (yes e) =
-          rw (eq-eqb (leftAt b (a .tick)) 0 e)
-          (record {
-            is = next-is ∙ rw (eq-eqb (leftAt b (a .tick)) 0 e);
-            steady = next-steady;
-            bound = bounded;
-            level = left-is;
-            early = omega arith;
-            busy = λ t l m. busy (a .tick) t l m (λ less. absurd (omega arith));
-          })
+      go (yes e) = tracks-since (a .tick) (rw (eq-eqb (leftAt b (a .tick)) 0 e)) (omega arith) (λ t l less. absurd (omega arith))
       go (no n) =
-          rw (ne-eqb (leftAt b (a .tick)) 0 n)
-          (record {
-            is = next-is ∙ rw (ne-eqb (leftAt b (a .tick)) 0 n);
-            steady = next-steady;
-            bound = bounded;
-            level = left-is;
-            early = let e = h .early in omega arith;
-            busy = λ t l m. busy (b .since) t l m (λ less. h .busy t l (omega arith));
-          })
+          let early = h .early in
+          tracks-since (b .since) (rw (ne-eqb (leftAt b (a .tick)) 0 n)) (omega arith) (λ t l less. h .busy t l (omega arith))

@@ -1,15 +1,12 @@
 -- A return for each rule; what is left of the level, and how many packets came since the buffer was found empty, are what the two callees tell.
 -- Assumes nothing.
-use mathlib.Core.Path.{_≡_, refl, sym, _∙_, ap}
-use Prim.Native.Nat.{ℕ, _+_, _<_, _≤_}
-use native.Mathlib.Omega.{arith}
+use mathlib.Core.Path.{_≡_, _∙_, ap}
+use Prim.Native.Nat.{ℕ, _+_}
 use borrow.Author.Needs.{needs}
 use Rattle.ground.proofs.Refusal.{yes<, no<}
 use Rattle.buffer.specs.Model.{leftOf, busyWith, arrivedAt}
 use Rattle.buffer.proofs.model.arrived.Statement.{statement}
 use Rattle.buffer.proofs.model.arrived.Tie as tie
-use Rattle.buffer.proofs.model.arrived.Reads as reads
-use Rattle.buffer.proofs.model.arrived.Lts as lts
 
 -- ---- what is known where the level is
 module _ (place : tie.After-left-of) where

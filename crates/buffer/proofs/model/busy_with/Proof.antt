@@ -6,8 +6,6 @@ use borrow.Author.Needs.{needs}
 use Rattle.ground.proofs.Refusal.{tests, no≡}
 use Rattle.buffer.proofs.model.busy_with.Statement.{statement}
 use Rattle.buffer.proofs.model.busy_with.Tie as tie
-use Rattle.buffer.proofs.model.busy_with.Reads as reads
-use Rattle.buffer.proofs.model.busy_with.Lts as lts
 
 returns : tie.Need-returns
 returns c = search (tests, arith)

@@ -16,8 +16,6 @@ use Rattle.buffer.specs.declared.model.Judging.{Judging}
 use Rattle.buffer.proofs.Verdict as F
 use Rattle.buffer.proofs.model.step.Statement.{statement}
 use Rattle.buffer.proofs.model.step.Tie as tie
-use Rattle.buffer.proofs.model.step.Reads as reads
-use Rattle.buffer.proofs.model.step.Lts as lts
 
 -- the other verdicts stay
 stays : (j : Judging) (i t : ℕ) (v : Verdict) → OneOf (1 ∷ 2 ∷ 3 ∷ []) (tagOf F.the-type v) → moved j t v ≡ cameAfter j i t v
