@@ -6,11 +6,11 @@ ghost use lib.Dec.{eqb};
 ghost use Rattle.buffer.specs.Model.{beginOf, stepOf, arrivedAt, busyWith, moved};
 use crate::Verdict;
 
-// What a packet of 188 bytes brings.
-const PACKET: u64 = 188 * 108;
+// What a packet of 188 bytes brings, in 108ths of a byte.
+const PACKET: u64 = 20_304;
 
 // What 512 bytes hold.
-const ROOM: u64 = 512 * 108;
+const ROOM: u64 = 55_296;
 
 // So many packets drain within 27,000,000 ticks: 1,329 take 26,984,016, and one more takes 27,004,320.
 const MOST_BUSY: u64 = 1_329;

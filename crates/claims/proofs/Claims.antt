@@ -6,6 +6,7 @@ use Rattle.pid.proofs.Claims as pids
 use Rattle.section.proofs.Claims as lengths
 use Rattle.clock.proofs.Claims as times
 use Rattle.rates.proofs.Claims as speeds
+use Rattle.buffer.proofs.Claims as arriving
 use Rattle.crc_table.proofs.Claims as entries
 use Rattle.crc.proofs.Claims as checks
 use Rattle.packet.proofs.Claims as packets
@@ -36,6 +37,7 @@ every-claim =
       section = lengths.claims;
       clock = times.claims;
       rates = speeds.claims;
+      buffer = arriving.claims;
       crcTable = entries.claims;
       crc = checks.claims;
       packet = packets.claims;

@@ -5,6 +5,7 @@ use Rattle.pid.specs.Claims as pids
 use Rattle.section.specs.Claims as lengths
 use Rattle.clock.specs.Claims as times
 use Rattle.rates.specs.Claims as speeds
+use Rattle.buffer.specs.Claims as arriving
 use Rattle.crc_table.specs.Claims as entries
 use Rattle.crc.specs.Claims as checks
 use Rattle.packet.specs.Claims as packets
@@ -37,6 +38,8 @@ pub record EveryClaim : Type 0 where
   pub clock : times.Claims
   -- rates between clock references
   pub rates : speeds.Claims
+  -- the transport buffer's verdict
+  pub buffer : arriving.Claims
   -- CRC_32, and its table
   pub crcTable : entries.Claims
   pub crc : checks.Claims

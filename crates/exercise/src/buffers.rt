@@ -17,6 +17,9 @@ pub(crate) type Output = [u8; 8192];
 // What is lent to packet calls for sets.
 pub(crate) type List = [u32; 128];
 
+// The row of records: the ticks of 2,048, and behind these their PIDs.
+pub(crate) type Row = [u64; 4096];
+
 // The outcomes that are not yet written out.
 pub(crate) type Text = [u8; 65536];
 

@@ -1,4 +1,5 @@
 // Reads a script of calls and writes each outcome whole: docs/EXERCISE.md has the format.
+mod buffer_calls;
 mod buffers;
 mod line;
 mod lone_calls;
@@ -11,6 +12,7 @@ mod table_calls;
 use crate::buffers::Bytes;
 use crate::buffers::List;
 use crate::buffers::Output;
+use crate::buffers::Row;
 use crate::buffers::Store;
 use crate::buffers::Text;
 use crate::line::Line;
@@ -18,9 +20,10 @@ use driver::State;
 use libc::STDIN_FILENO;
 use libc::STDOUT_FILENO;
 
-// What goes on from line to line: the state, the line that has begun, where the piece goes on, where the text ends, and whether to go on.
+// What goes on from line to line: the state, how many records the row has, the line that has begun, where the piece goes on, where the text ends, and whether to go on.
 struct Turn {
     state: State,
+    size: usize,
     line: Line,
     next: usize,
     at: usize,
@@ -66,36 +69,44 @@ fn write(text: &[u8], size: usize) -> bool {
     is_written
 }
 
-// The outcome of a line, and a line end behind it. The text is written once it is long: no outcome has 20,000 bytes.
-fn ended(
+// The outcome of a line.
+fn answered(
     turn: Turn,
     bytes: &mut Bytes,
     store: &mut Store,
     out: &mut Output,
     list: &mut List,
+    row: &mut Row,
     text: &mut Text,
 ) -> Turn {
     let line = turn.line.ended();
+    let mut next = turn;
+    if buffer_calls::is_one(line, turn.size) {
+        let kept = buffer_calls::answer(line, turn.size, row, text, turn.at);
+        next.size = kept.size;
+        next.at = kept.at;
+        return next;
+    }
     let state = turn.state;
     let after = state_calls::answer(line, state, bytes, store, out, list, text, turn.at);
-    let end = text::byte(text, after.at, b'\n');
     let state = after.state;
-    if end < 40_000 {
-        return Turn {
-            state,
-            line: Line::new(),
-            next: turn.next,
-            at: end,
-            is_on: true,
-        };
+    next.state = state;
+    next.at = after.at;
+    next
+}
+
+// A line end behind an outcome, and a new line. The text is written once it is long: no outcome has 20,000 bytes.
+fn ended(turn: Turn, text: &mut Text) -> Turn {
+    let end = text::byte(text, turn.at, b'\n');
+    let line = Line::new();
+    let mut next = turn;
+    next.line = line;
+    next.at = end;
+    if 40_000 <= end {
+        next.at = 0;
+        next.is_on = write(text, end);
     }
-    Turn {
-        state,
-        line: Line::new(),
-        next: turn.next,
-        at: 0,
-        is_on: write(text, end),
-    }
+    next
 }
 
 // Takes a line of the piece, and answers it where it ends there.
@@ -106,6 +117,7 @@ fn answer_line(
     store: &mut Store,
     out: &mut Output,
     list: &mut List,
+    row: &mut Row,
     text: &mut Text,
 ) -> Turn {
     let line = turn.line;
@@ -117,7 +129,8 @@ fn answer_line(
     if !taken.is_ended {
         return next;
     }
-    ended(next, bytes, store, out, list, text)
+    let told = answered(next, bytes, store, out, list, row, text);
+    ended(told, text)
 }
 
 // Whether there is more of the piece to take.
@@ -133,12 +146,13 @@ fn answer_piece(
     store: &mut Store,
     out: &mut Output,
     list: &mut List,
+    row: &mut Row,
     text: &mut Text,
 ) -> Turn {
     let mut now = turn;
     let mut left = piece.len();
     while 0 < left && is_left(now, piece) {
-        now = answer_line(now, piece, bytes, store, out, list, text);
+        now = answer_line(now, piece, bytes, store, out, list, row, text);
         left -= 1;
     }
     now
@@ -151,6 +165,7 @@ fn answer_some(
     store: &mut Store,
     out: &mut Output,
     list: &mut List,
+    row: &mut Row,
     text: &mut Text,
 ) -> Turn {
     let mut piece = io::large_buffer();
@@ -159,7 +174,7 @@ fn answer_some(
         let n = io::count(got, &piece);
         let mut turn = turn;
         turn.next = 0;
-        return answer_piece(turn, &piece[..n], bytes, store, out, list, text);
+        return answer_piece(turn, &piece[..n], bytes, store, out, list, row, text);
     }
     if got < 0 {
         os::fail(b"standard input");
@@ -168,7 +183,8 @@ fn answer_some(
     if (got < 0) | line.is_empty() {
         return stopped(turn, text);
     }
-    let last = ended(turn, bytes, store, out, list, text);
+    let told = answered(turn, bytes, store, out, list, row, text);
+    let last = ended(told, text);
     stopped(last, text)
 }
 
@@ -186,18 +202,20 @@ fn answer_all(
     store: &mut Store,
     out: &mut Output,
     list: &mut List,
+    row: &mut Row,
     text: &mut Text,
 ) {
     let mut turns = u64::MAX;
     let mut turn = Turn {
         state: driver::fresh(),
+        size: 0,
         line: Line::new(),
         next: 0,
         at: 0,
         is_on: true,
     };
     while 0 < turns && turn.is_on {
-        turn = answer_some(turn, bytes, store, out, list, text);
+        turn = answer_some(turn, bytes, store, out, list, row, text);
         turns -= 1;
     }
 }
@@ -207,6 +225,14 @@ fn main() {
     let mut store: Store = [0; 40960];
     let mut out: Output = [0; 8192];
     let mut list: List = [0; 128];
+    let mut row: Row = [0; 4096];
     let mut text = io::large_buffer();
-    answer_all(&mut bytes, &mut store, &mut out, &mut list, &mut text);
+    answer_all(
+        &mut bytes,
+        &mut store,
+        &mut out,
+        &mut list,
+        &mut row,
+        &mut text,
+    );
 }

@@ -6,10 +6,10 @@ use Rattle.exercise.proofs.answer_all.Statement.{statement}
 use Rattle.exercise.proofs.answer_all.Tie as tie
 
 abbrev Inv-loop : tie.InvT-loop
-Inv-loop bytes₀ store₀ out₀ list₀ text₀ turns₀ turn₀ bytes store out list text turns turn = Unit {0}
+Inv-loop bytes₀ store₀ out₀ list₀ row₀ text₀ turns₀ turn₀ bytes store out list row text turns turn = Unit {0}
 
 abbrev μ-loop : tie.MeasureT-loop
-μ-loop bytes₀ store₀ out₀ list₀ text₀ turns₀ turn₀ bytes store out list text turns turn = turns
+μ-loop bytes₀ store₀ out₀ list₀ row₀ text₀ turns₀ turn₀ bytes store out list row text turns turn = turns
 
 fresh-requires : tie.Need-fresh-requires Inv-loop μ-loop
 fresh-requires c κs = search needs

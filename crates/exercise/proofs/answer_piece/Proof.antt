@@ -6,10 +6,10 @@ use Rattle.exercise.proofs.answer_piece.Statement.{statement}
 use Rattle.exercise.proofs.answer_piece.Tie as tie
 
 abbrev Inv-loop : tie.InvT-loop
-Inv-loop piece bytes₀ store₀ out₀ list₀ text₀ now₀ left₀ bytes store out list text now left = Unit {0}
+Inv-loop piece bytes₀ store₀ out₀ list₀ row₀ text₀ now₀ left₀ bytes store out list row text now left = Unit {0}
 
 abbrev μ-loop : tie.MeasureT-loop
-μ-loop piece bytes₀ store₀ out₀ list₀ text₀ now₀ left₀ bytes store out list text now left = left
+μ-loop piece bytes₀ store₀ out₀ list₀ row₀ text₀ now₀ left₀ bytes store out list row text now left = left
 
 loop-holds : tie.Need-loop-holds Inv-loop μ-loop
 loop-holds c = tt

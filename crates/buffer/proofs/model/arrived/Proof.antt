@@ -2,6 +2,7 @@
 -- Assumes nothing.
 use mathlib.Core.Path.{_≡_, _∙_, ap}
 use Prim.Native.Nat.{ℕ, _+_}
+use native.Mathlib.Omega.{arith}
 use borrow.Author.Needs.{needs}
 use Rattle.ground.proofs.Refusal.{yes<, no<}
 use Rattle.buffer.specs.Model.{leftOf, busyWith, arrivedAt}
@@ -15,9 +16,6 @@ module _ (place : tie.After-left-of) where
 
   abbrev left : ℕ
   left = leftOf (start .args .j) (start .args .tick)
-
-  level-is : place .left-of .result + 20304 ≡ left + 20304
-  level-is = ap (λ (n : ℕ). n + 20304) (place .left-of .ensures)
 
 -- and where the count is
 module _ (place : tie.After-busy-with) where
@@ -46,7 +44,10 @@ moved-requires c κs = search needs
 
 returns : tie.Need-returns
 unfolding arrivedAt
-returns c = yes< _ _ _ _ (rw (level-is (c .before .before)) at (c .before .if1 .taken)) (c .moved .ensures)
+returns c =
+    let place = c .before .before in
+    let level = place .left-of .ensures in
+    yes< 55296 (left place + 20304) _ _ (omega arith) (c .moved .ensures)
 
 busy-with-requires : tie.Need-busy-with-requires
 busy-with-requires c κs = search needs
@@ -58,8 +59,9 @@ returns-2 : tie.Need-returns-2
 unfolding arrivedAt
 returns-2 c =
     let place = c .before .before in
-    no< _ _ _ _ (rw (level-is (place .before .before)) at (place .before .if1 .left))
-    (yes< _ _ _ _ (rw (count-is place) at (c .before .if2 .taken)) (c .moved2 .ensures))
+    let level = place .before .before .left-of .ensures in
+    let busy = count-is place in
+    no< 55296 (left (place .before .before) + 20304) _ _ (omega arith) (yes< 1329 (count place) _ _ (omega arith) (c .moved2 .ensures))
 
 cast-level : tie.Need-cast-t12
 cast-level c = search needs
@@ -71,8 +73,9 @@ returns-3 : tie.Need-returns-3
 unfolding arrivedAt
 returns-3 c =
     let place = c .before in
-    no< _ _ _ _ (rw (level-is (place .before .before)) at (place .before .if1 .left))
-    (no< _ _ _ _ (rw (count-is place) at (c .if2 .left)) (rw (level-is (place .before .before), count-is place)))
+    let level = place .before .before .left-of .ensures in
+    let busy = count-is place in
+    no< 55296 (left (place .before .before) + 20304) _ _ (omega arith) (no< 1329 (count place) _ _ (omega arith) (rw (level, busy)))
 
 pub arrived-spec : {M : Type 1} → statement M
 arrived-spec =

@@ -28,14 +28,19 @@ stays j i t (verdict.Refused n) other = refl
 
 returns : tie.Need-returns
 unfolding stepOf
-returns c = yes≢ _ _ _ _ (c .if1 .taken) refl
+returns c =
+    let start = c .before .before in
+    yes≢ (start .args .pid) (start .args .j .pid) _ _ (λ (e : start .args .pid ≡ start .args .j .pid). absurd (omega arith)) refl
 
 moved-requires : tie.Need-moved-requires
 moved-requires c κs = search needs
 
 returns-2 : tie.Need-returns-2
 unfolding stepOf
-returns-2 c = no≢ _ _ _ _ (c .before .before .before .if1 .left) (yes< _ _ _ _ (c .before .if2 .taken) (c .moved .ensures))
+returns-2 c =
+    let start = c .before .before .before .before .before in
+    let j = start .args .j in
+    no≢ (start .args .pid) (j .pid) _ _ (omega arith) (yes< (start .args .tick) (j .last) _ _ (omega arith) (c .moved .ensures))
 
 enum-told : tie.Need-enum-told
 enum-told c = search needs
@@ -48,7 +53,7 @@ unfolding stepOf
 returns-3 c =
     let start = c .before .before .before .before .before .before in
     let j = start .args .j in
-    no≢ _ _ _ _ (c .before .before .before .before .if1 .left) (no< _ _ _ _ (c .before .before .if2 .left)
+    no≢ (start .args .pid) (j .pid) _ _ (omega arith) (no< (start .args .tick) (j .last) _ _ (omega arith)
     (c .moved2 .ensures ∙ stays j (start .args .i) (start .args .tick) (j .verdict) (c .before .match .keys2)))
 
 arrived-requires : tie.Need-arrived-requires
@@ -58,8 +63,9 @@ returns-4 : tie.Need-returns-4
 unfolding stepOf
 returns-4 c =
     let start = c .before .before .before .before .before .before .before in
-    no≢ _ _ _ _ (c .before .before .before .before .before .if1 .left) (no< _ _ _ _ (c .before .before .before .if2 .left)
-    (c .arrived .ensures ∙ ap (cameAfter (start .args .j) (start .args .i) (start .args .tick)) (sym (c .before .enum-told .given .1))))
+    let j = start .args .j in
+    no≢ (start .args .pid) (j .pid) _ _ (omega arith) (no< (start .args .tick) (j .last) _ _ (omega arith)
+    (c .arrived .ensures ∙ ap (cameAfter j (start .args .i) (start .args .tick)) (sym (c .before .enum-told .given .1))))
 
 pub step-spec : {M : Type 1} → statement M
 step-spec = tie.close (tie.spec returns moved-requires returns-2 enum-told moved-requires-2 returns-3 arrived-requires returns-4)
