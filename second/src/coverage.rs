@@ -1,5 +1,6 @@
 //! Counts what outcomes hold, and names what they lack.
 
+mod buffer;
 mod extensions;
 pub mod rates;
 mod sets;
@@ -8,6 +9,7 @@ mod states;
 use std::collections::BTreeMap;
 use std::io::{self, BufRead, Write};
 
+use buffer::Rows;
 use extensions::inside;
 use sets::nobody;
 use states::{Shown, States};
@@ -15,8 +17,8 @@ use states::{Shown, States};
 /// The least number of outcomes of each call word.
 const LEAST: u64 = 20_000;
 
-/// Each call word with the refusals that its order in document 01 has, with requests 2, 6, 8 and 12 of document 02.
-const CALLS: [(&str, &[u32]); 25] = [
+/// Each call word with the refusals that its order in document 01 has, with requests 2, 6, 7, 8 and 12 of document 02.
+const CALLS: [(&str, &[u32]); 26] = [
     ("open", &[1, 12, 17, 13, 14, 15]),
     ("close", &[1, 16]),
     ("packet", &[1, 3, 2, 4, 5, 6, 7, 8, 36, 9, 10, 11]),
@@ -42,10 +44,11 @@ const CALLS: [(&str, &[u32]); 25] = [
     ("forward", &[40]),
     ("rate", &[40, 80, 81]),
     ("rerate", &[82, 40, 80, 81]),
+    ("judge", &[70]),
 ];
 
 /// Things that must occur beside the refusals.
-const MARKS: [&str; 29] = [
+const MARKS: [&str; 35] = [
     "wanted",
     "unwanted",
     "jump",
@@ -68,6 +71,12 @@ const MARKS: [&str; 29] = [
     "exact",
     "up",
     "down",
+    "passes",
+    "overruns",
+    "lingers",
+    "back70",
+    "brim",
+    "both",
     "given",
     "closed",
     "right",
@@ -77,15 +86,16 @@ const MARKS: [&str; 29] = [
     "bad",
 ];
 
-const REFUSALS: [u32; 39] = [
+const REFUSALS: [u32; 40] = [
     1, 2, 3, 4, 5, 6, 7, 8, 9, 10, 11, 12, 13, 14, 15, 16, 17, 20, 21, 22, 23, 24, 25, 26, 27, 30,
-    31, 32, 33, 34, 35, 36, 37, 38, 40, 41, 80, 81, 82,
+    31, 32, 33, 34, 35, 36, 37, 38, 40, 41, 70, 80, 81, 82,
 ];
 
 #[derive(Default)]
 pub struct Counts {
     of: BTreeMap<String, u64>,
     states: States,
+    rows: Rows,
 }
 
 impl Counts {
@@ -118,6 +128,8 @@ impl Counts {
         if shown.repeated {
             self.add("repeated");
         }
+        let marks = self.rows.shown(&parts, line);
+        self.add_all(marks);
         match parts.get(1) {
             Some(&"refused") => self.refused(&parts),
             Some(&"wanted") => self.wanted(&parts, &shown),

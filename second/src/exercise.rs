@@ -1,5 +1,6 @@
 //! Reads a script of calls and writes the outcome of every line.
 
+mod buffer_calls;
 mod buffers;
 mod line;
 mod lone_calls;
@@ -38,6 +39,7 @@ impl Exercise {
             None => return String::from("bad"),
         };
         let outcome = state_calls::answer(&mut self.state, &mut self.buffers, &call)
+            .or_else(|| buffer_calls::answer(&mut self.buffers.row, &call))
             .or_else(|| lone_calls::answer(&call))
             .or_else(|| table_calls::answer(&call));
         match outcome {

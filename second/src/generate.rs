@@ -2,6 +2,7 @@
 
 mod alone;
 mod bad;
+mod buffer;
 mod choices;
 mod driver;
 mod extensions;
@@ -26,7 +27,7 @@ use script::Script;
 type Generator = fn(&mut Random, &mut Script);
 
 /// Each kind of script with what makes it.
-pub const KINDS: [(&str, Generator); 8] = [
+pub const KINDS: [(&str, Generator); 9] = [
     ("driver", driver::generate),
     ("numbers", numbers::generate),
     ("alone", alone::generate),
@@ -34,6 +35,7 @@ pub const KINDS: [(&str, Generator); 8] = [
     ("pes", pes::generate),
     ("time", time::generate),
     ("rates", rates::generate),
+    ("buffer", buffer::generate),
     ("bad", bad::generate),
 ];
 

@@ -17,6 +17,7 @@ mod state;
 mod tables;
 mod the_packet;
 mod time;
+mod transport_buffer;
 
 #[cfg(test)]
 mod tests;
@@ -32,7 +33,7 @@ const USAGE: &str = "usage: second list [FILE]
        second generate KIND SEED COUNT > SCRIPT
        second recording FILE > SCRIPT
        second coverage < OUTCOMES
-kinds: driver numbers alone tables pes time rates bad";
+kinds: driver numbers alone tables pes time rates buffer bad";
 
 fn main() -> ExitCode {
     let arguments: Vec<OsString> = env::args_os().skip(1).collect();

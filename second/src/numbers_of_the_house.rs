@@ -1,4 +1,4 @@
-//! Document 01, "Numbers of the house", with requests 2 and 8 of document 02.
+//! Document 01, "Numbers of the house", with requests 2, 7 and 8 of document 02.
 
 pub const AREAS: usize = 8;
 pub const AREA_BYTES: usize = 4_096;
@@ -16,3 +16,5 @@ pub const STAMP_TURN: u64 = 8_589_934_592;
 pub const CLOCK_TURN: u64 = 2_576_980_377_600;
 pub const TICKS_A_SECOND: u64 = 27_000_000;
 pub const MOST_RATED_BYTES: u64 = 333_599_972;
+pub const TRANSPORT_BUFFER_BYTES: usize = 512;
+pub const TICKS_A_BYTE: usize = 108;

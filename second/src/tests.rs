@@ -1,6 +1,11 @@
 //! The documents' examples, and what the commands promise.
 
 mod begun;
+mod buffer;
+mod buffer_counts;
+mod buffer_lines;
+mod buffer_rows;
+mod buffer_scripts;
 mod choices;
 mod commands;
 mod counts;

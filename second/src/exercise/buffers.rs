@@ -1,15 +1,20 @@
-//! The buffers and the list that are lent to packet calls.
+//! The buffers and the list that are lent to packet calls, and the row of records that is lent for a verdict.
 
 use super::outcome::digest;
+use crate::transport_buffer::Record;
 
 const STORE_BUFFER: usize = 40_960;
 const OUTPUT_BUFFER: usize = 8_192;
 const LIST_PLACES: usize = 128;
 
+/// For how many records the row has room.
+pub const ROW_RECORDS: usize = 2_048;
+
 pub struct Buffers {
     pub store: Vec<u8>,
     pub output: Vec<u8>,
     pub list: Vec<u32>,
+    pub row: Vec<Record>,
 }
 
 impl Buffers {
@@ -18,6 +23,7 @@ impl Buffers {
             store: vec![0; STORE_BUFFER],
             output: vec![0; OUTPUT_BUFFER],
             list: vec![0; LIST_PLACES],
+            row: Vec::new(),
         }
     }
 }

@@ -10,7 +10,7 @@ pub struct Call {
 }
 
 /// Each word with the highest value of each number, and whether bytes come last.
-pub const LINES: [(&str, &[u64], bool); 33] = [
+pub const LINES: [(&str, &[u64], bool); 36] = [
     ("fresh", &[], false),
     ("area", &[7, 65_535, 255, 65_535, 255, 255, 255], false),
     ("place", &[31, 65_535, 255, 65_535], false),
@@ -44,6 +44,9 @@ pub const LINES: [(&str, &[u64], bool); 33] = [
     ("forward", &[ANY, ANY], false),
     ("rate", &[ANY; 3], false),
     ("rerate", &[ANY; 6], false),
+    ("clear", &[], false),
+    ("arrive", &[ANY, ANY, 2_048, 65_535], false),
+    ("judge", &[65_535], false),
 ];
 
 pub fn read(text: &[u8]) -> Option<Call> {

@@ -1,8 +1,11 @@
 //! Lines that are not as a script's lines are, among lines that are.
 
+mod rows;
+
 use super::random::Random;
 use super::script::{field, Script};
 use crate::exercise::LINES;
+use rows::{crowd, ending, look};
 
 pub fn generate(random: &mut Random, script: &mut Script) {
     let line = if random.one_in(20) {
@@ -17,11 +20,19 @@ pub fn generate(random: &mut Random, script: &mut Script) {
         script.call("close 0");
         script.set_up("digest");
         script.set_up("fresh");
+        look(script);
+    }
+    match random.below(40) {
+        0 => crowd(random, script),
+        1 | 2 => ending(random, script),
+        _ => {}
     }
 }
 
 /// The words whose lines requests gave more numbers, or that came with one.
-const COUNTED: [&str; 7] = ["area", "place", "list", "open", "packet", "rate", "rerate"];
+const COUNTED: [&str; 10] = [
+    "area", "place", "list", "open", "packet", "rate", "rerate", "clear", "arrive", "judge",
+];
 
 /// A line of such a word with one number too few, as many as it has or one too many; the last is small, at its limit or past it, and at times bytes are missing or too much.
 fn counted_line(random: &mut Random) -> Vec<u8> {
@@ -29,11 +40,14 @@ fn counted_line(random: &mut Random) -> Vec<u8> {
     let shapes: Vec<_> = lines.collect();
     let (word, ranges, with_bytes) = *random.pick(&shapes);
     let mut fields = vec![String::from(word)];
-    for _ in 0..random.between(ranges.len() - 2, ranges.len()) {
+    let many = random.between(ranges.len().saturating_sub(1), ranges.len() + 1);
+    for _ in 1..many {
         fields.push(random.below(2).to_string());
     }
-    let limit = u128::from(ranges[ranges.len() - 1]);
-    fields.push(random.pick(&[0, 1, 2, limit, limit + 1]).to_string());
+    if many > 0 {
+        let limit = ranges.last().map_or(0, |limit| u128::from(*limit));
+        fields.push(random.pick(&[0, 1, 2, limit, limit + 1]).to_string());
+    }
     if with_bytes != random.one_in(8) {
         fields.push(field(&random.bytes(4)));
     }
@@ -143,6 +157,9 @@ fn word(random: &mut Random) -> String {
         "pidd",
         "rates",
         "rerat",
+        "clea",
+        "arrives",
+        "judg",
     ];
     random.pick(&words).to_string()
 }

@@ -34,15 +34,8 @@ pub fn generate(random: &mut Random, script: &mut Script) {
     if random.one_in(4) {
         fill_list(random, script);
     }
-    let all: usize = SCENARIOS.iter().map(|(weight, _)| weight).sum();
-    let mut left = random.below(all);
-    for (weight, scenario) in SCENARIOS {
-        if left < weight {
-            scenario(random, script);
-            break;
-        }
-        left -= weight;
-    }
+    let scenario = random.weighed(&SCENARIOS);
+    scenario(random, script);
     if random.one_in(50) {
         let at = random.below(8_000);
         let bytes = random.bytes(16);

@@ -35,6 +35,13 @@ impl Random {
         choices[self.below(choices.len())]
     }
 
+    /// One of some choices, each as often as its weight says.
+    pub fn weighed<T: Copy>(&mut self, choices: &[(usize, T)]) -> T {
+        let often = |(weight, choice): &(usize, T)| vec![*choice; *weight];
+        let all: Vec<T> = choices.iter().flat_map(often).collect();
+        self.pick(&all)
+    }
+
     pub fn byte(&mut self) -> u8 {
         self.next() as u8
     }

@@ -48,6 +48,14 @@ fn request_06_as_a_script() {
 }
 
 #[test]
+fn request_07_as_a_script() {
+    answered(
+        include_str!("../../examples/request-07.script"),
+        include_str!("../../examples/request-07.expected"),
+    );
+}
+
+#[test]
 fn request_08_as_a_script() {
     answered(
         include_str!("../../examples/request-08.script"),
@@ -79,7 +87,7 @@ fn request_13_as_a_script() {
     );
 }
 
-const MALFORMED: [&str; 61] = [
+const MALFORMED: [&str; 76] = [
     "",
     " ",
     "Open 1 2",
@@ -141,6 +149,21 @@ const MALFORMED: [&str; 61] = [
     "rerate 0 0 0 188 1 0 0",
     "rerate 0 0 0 188 1 0 =00",
     "rerate -0 0 0 188 1 0",
+    "clear 0",
+    "clear =",
+    "arrive",
+    "arrive 0 0 1",
+    "arrive 0 0 1 0 0",
+    "arrive 0 0 1 0 =",
+    "arrive 0 0 1 65536",
+    "arrive 0 0 2049 0",
+    "arrive 18446744073709551616 0 0 0",
+    "arrive 0 18446744073709551616 0 0",
+    "arrive 0 0 18446744073709551616 0",
+    "judge",
+    "judge 0 0",
+    "judge 0 =",
+    "judge 65536",
 ];
 
 #[test]
@@ -187,6 +210,9 @@ fn lines_at_their_limits() {
             "rerate 0 0 18446744073709551615 188 1 0",
             "rerate refused 82",
         ),
+        ("clear", "clear"),
+        ("arrive 0 0 2048 65535", "arrive 2048"),
+        ("judge 65535", "judge passes"),
     ];
     for (line, expected) in pairs {
         assert_eq!(outcome(line), expected);
