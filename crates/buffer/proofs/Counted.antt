@@ -49,9 +49,9 @@ one-at-most left m = go (eqb left 0)
     go true = omega arith
     go false = omega arith
 
-pub lingers-last : (pid : ℕ) (rs : List Record) (i : ℕ) → verdictOf pid rs ≡ given (lingers i)
+pub first-to-linger : (pid : ℕ) (rs : List Record) (i : ℕ) → verdictOf pid rs ≡ given (lingers i)
     → FirstTo (λ (earlier : List Arrival) (a : Arrival). (e : Arrival) × (l : LastEmpty (upTo earlier a) e) × (busyCount l ≡ 1330)) (arrivals pid 0 rs) i
-lingers-last pid rs i e =
+first-to-linger pid rs i e =
     let found = given-exactly pid rs (lingers i) .0 e in
     let s = rises-steady (arrivals pid 0 rs) (found .0) in
     let d = found .1 in

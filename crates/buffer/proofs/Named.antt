@@ -6,6 +6,7 @@ use mathlib.Core.List.{List, [], _∷_, _++_, append-assoc}
 use Prim.Native.Nat.{ℕ, suc, _+_}
 use native.Mathlib.Nat.{add-zero}
 use native.Mathlib.Omega.{arith}
+use borrow.Author.Tests.{eqb-true}
 use lib.ListN.{length}
 use lib.Seq.{append-snoc}
 use Rattle.ground.specs.Answer.{refused, given}
@@ -122,7 +123,7 @@ module _ (pid : ℕ) (rs : List Record) (i : ℕ) (Breaks : List Arrival → Arr
   named-by f finds r =
       let p = there .place in
       let k = d .index in (
-        record { front = there .front; own = there .own; back = there .back; split = there .split; place = omega arith; isOwn = there .isOwn },
+        record { front = there .front; own = there .own; back = there .back; split = there .split; place = omega arith; isOwn = eqb-true (there .own .pid .0) pid (there .isOwn) },
         given-exactly pid (there .front) passes .1 (rises-before r, rw (there .before) (d .kept)),
         given-exactly pid (there .front ++ there .own ∷ []) f .1 (rises-behind r, finds (arrivals pid 0 (there .front ++ there .own ∷ [])) first-behind),
       )

@@ -5,7 +5,7 @@ use mathlib.Core.Bool.{Bool, true, false, cond, _||_}
 use mathlib.Core.List.{List, [], _∷_, _++_, map, map-append, append-nil}
 use Prim.Native.Nat.{ℕ, suc, _+_, _≤_}
 use native.Mathlib.Omega.{arith}
-use borrow.Author.Tests.{lt-ltb, le-ltb}
+use borrow.Author.Tests.{lt-ltb, le-ltb, eq-eqb, ne-eqb}
 use lib.Dec.{ltb}
 use lib.ListN.{length, length-append}
 use lib.Seq.{append-snoc, take-append-seam}
@@ -16,6 +16,13 @@ use Rattle.buffer.specs.Verdict.{overruns, lingers, Arrival, isOf, arriv
 use Rattle.buffer.specs.Laws.{renamed, retold, ownBefore, movedOn}
 use Rattle.buffer.specs.declared.Record.{Record}
 use Rattle.buffer.proofs.Named.{arrivals-append}
+
+-- ---- a record of the PID, and one of another
+pub counts : (pid i : ℕ) (r : Record) (rs : List Record) → r .pid .0 ≡ pid → arrivals pid i (r ∷ rs) ≡ record { index = i; tick = r .tick } ∷ arrivals pid (suc i) rs
+counts pid i r rs e = rw (eq-eqb (r .pid .0) pid e)
+
+pub skips : (pid i : ℕ) (r : Record) (rs : List Record) → (r .pid .0 ≡ pid → ⊥) → arrivals pid i (r ∷ rs) ≡ arrivals pid (suc i) rs
+skips pid i r rs n = rw (ne-eqb (r .pid .0) pid n)
 
 -- ---- the same packets, their records with other indices
 module _ (f : ℕ → ℕ) where
@@ -86,9 +93,9 @@ module _ (pid : ℕ) where
 
   -- ---- records of other PIDs between the others
   -- they bring no packet
-  no-packet : (i : ℕ) (out : List Record) → Every (λ (r : Record). isOf pid r ≡ false) out → arrivals pid i out ≡ []
+  no-packet : (i : ℕ) (out : List Record) → Every (λ (r : Record). r .pid .0 ≡ pid → ⊥) out → arrivals pid i out ≡ []
   no-packet i [] n = refl
-  no-packet i (r ∷ out) n = rw (n .0) (no-packet (suc i) out (n .1))
+  no-packet i (r ∷ out) n = skips pid i r out (n .0) ∙ no-packet (suc i) out (n .1)
 
   -- indices below n stay, and those from n on go up by k
   stays : (n k i : ℕ) (rs : List Record) → i + length rs ≤ n → reindexed (movedOn n k) (arrivals pid i rs) ≡ arrivals pid i rs
@@ -114,7 +121,7 @@ module _ (pid : ℕ) where
       go true e = rw (le-ltb i n l) (ap (λ (l : List Arrival). record { index = i + k; tick = r .tick } ∷ l) (rw sum at e))
       go false e = rw sum at e
 
-  pub put-in : (front out back : List Record) → Every (λ (r : Record). isOf pid r ≡ false) out
+  pub put-in : (front out back : List Record) → Every (λ (r : Record). r .pid .0 ≡ pid → ⊥) out
       → verdictOf pid (front ++ out ++ back) ≡ retold (movedOn (length front) (length out)) (verdictOf pid (front ++ back))
   put-in front out back n = same-verdict (movedOn (length front) (length out)) pid (front ++ back) (front ++ out ++ back) (without ∙ sym within)
     where

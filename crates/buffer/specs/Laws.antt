@@ -1,6 +1,6 @@
 -- Document 02, ticket 7: what a verdict says, and what it does not go by.
 use mathlib.Core.Path.{_≡_}
-use mathlib.Core.Bool.{true, false, cond}
+use mathlib.Core.Bool.{cond}
 use mathlib.Core.List.{List, [], _∷_, _++_}
 use mathlib.Core.Logic.{_↔_}
 use Prim.Native.Nat.{ℕ, suc, _+_, _-_, _*_, _≤_}
@@ -36,7 +36,7 @@ pub record Stands (pid : ℕ) (rs : List Record) (i : ℕ) : Type 0 where
   pub back : List Record
   pub split : rs ≡ front ++ own ∷ back
   pub place : length front ≡ i
-  pub isOwn : isOf pid own ≡ true
+  pub isOwn : own .pid .0 ≡ pid
 
 -- the same finding, with another index for the record that it names
 abbrev pub renamed : (ℕ → ℕ) → Finding → Finding
@@ -58,6 +58,10 @@ abbrev pub movedOn : ℕ → ℕ → ℕ → ℕ
 movedOn n k i = cond (ltb i n) i (i + k)
 
 pub record BufferLaws : Type 0 where
+  -- ---- "Each packet of the PID counts": its record's index, and its tick; no other does, and there are no more
+  pub counts : (pid i : ℕ) (r : Record) (rs : List Record) → r .pid .0 ≡ pid → arrivals pid i (r ∷ rs) ≡ record { index = i; tick = r .tick } ∷ arrivals pid (suc i) rs
+  pub skips : (pid i : ℕ) (r : Record) (rs : List Record) → (r .pid .0 ≡ pid → ⊥) → arrivals pid i (r ∷ rs) ≡ arrivals pid (suc i) rs
+  pub ends : (pid i : ℕ) → arrivals pid i [] ≡ []
   -- ---- "Refusals: 70, a tick of the PID below its one before, anywhere in the list, ahead of any verdict"
   pub refusedExactly : (pid : ℕ) (rs : List Record) (n : ℕ) → (verdictOf pid rs ≡ refused n) ↔ ((n ≡ 70) × Falls (arrivals pid 0 rs))
   -- ---- "It passes exactly if ..", "The verdict names the first record that breaks a rule, and which", tick by tick
@@ -72,7 +76,7 @@ pub record BufferLaws : Type 0 where
   pub lateExactly : (packets : List Arrival) (e : Arrival) (l : LastEmpty packets e) → Rises packets
       → isTooLate (bufferAfter emptyBuffer packets) ≡ ltb 1329 (busyCount l)
   -- and the first to break it is the 1,330th
-  pub lingersLast : (pid : ℕ) (rs : List Record) (i : ℕ) → verdictOf pid rs ≡ given (lingers i)
+  pub firstToLinger : (pid : ℕ) (rs : List Record) (i : ℕ) → verdictOf pid rs ≡ given (lingers i)
       → FirstTo (λ (earlier : List Arrival) (a : Arrival). (e : Arrival) × (l : LastEmpty (upTo earlier a) e) × (busyCount l ≡ 1330)) (arrivals pid 0 rs) i
   -- ---- which record is named
   -- one of the PID; the list passes that ends before it, and is judged the same where it ends behind it
@@ -86,7 +90,7 @@ pub record BufferLaws : Type 0 where
   pub others : (pid : ℕ) (xs ys : List Record) → keep (isOf pid) xs ≡ keep (isOf pid) ys
       → retold (ownBefore pid xs) (verdictOf pid xs) ≡ retold (ownBefore pid ys) (verdictOf pid ys)
   -- records of other PIDs that are put in, or left out, move the index of what stands behind them, and nothing else
-  pub putIn : (pid : ℕ) (front out back : List Record) → Every (λ (r : Record). isOf pid r ≡ false) out
+  pub putIn : (pid : ℕ) (front out back : List Record) → Every (λ (r : Record). r .pid .0 ≡ pid → ⊥) out
       → verdictOf pid (front ++ out ++ back) ≡ retold (movedOn (length front) (length out)) (verdictOf pid (front ++ back))
   -- ---- spacings
   -- packets that come when the one before has drained pass

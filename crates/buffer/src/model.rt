@@ -1,8 +1,6 @@
 // The buffer from record to record: a level in 108ths of a byte, which falls by one a tick.
 ghost use mathlib.Core.Path.{_≡_};
-ghost use mathlib.Core.Bool.{cond};
-ghost use Prim.Native.Nat.{suc, _-_, _≤_};
-ghost use lib.Dec.{eqb};
+ghost use Prim.Native.Nat.{_-_, _≤_};
 ghost use Rattle.buffer.specs.Model.{beginOf, stepOf, arrivedAt, busyWith, moved};
 use crate::Verdict;
 

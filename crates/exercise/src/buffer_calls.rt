@@ -1,7 +1,6 @@
 // The lines about the transport buffer: the row of records, and the verdict on it.
 use crate::buffers::Row;
 use crate::line::Line;
-use crate::line::Values;
 use crate::line::sixteen_bits;
 use crate::outcome;
 use buffer::Record;
@@ -14,12 +13,12 @@ pub(crate) struct Kept {
     pub(crate) at: usize,
 }
 
-// Whether a line is one of these; its size is that of the row.
+// Whether a line is one of these, where the row has so many records.
 pub(crate) fn is_one(line: Line, size: usize) -> bool {
     let n = line.numbers;
-    line.is(b"clear", 0, false)
-        | line.is(b"arrive", 4, false) & (n[3] <= 65_535) & fits(size, n[0], n[1], n[2])
-        | line.is(b"judge", 1, false) & line.within(65_535, 0)
+    let is_arrive = line.is(b"arrive", 4, false) & (n[3] <= 65_535) & fits(size, n[0], n[1], n[2]);
+    let is_judge = line.is(b"judge", 1, false) & line.within(65_535, 0);
+    line.is(b"clear", 0, false) | is_arrive | is_judge
 }
 
 // Whether so many records more stand in the row, and the last of their ticks in 64 bits.
