@@ -16,5 +16,8 @@ pub const STAMP_TURN: u64 = 8_589_934_592;
 pub const CLOCK_TURN: u64 = 2_576_980_377_600;
 pub const TICKS_A_SECOND: u64 = 27_000_000;
 pub const MOST_RATED_BYTES: u64 = 333_599_972;
-pub const TRANSPORT_BUFFER_BYTES: usize = 512;
-pub const TICKS_A_BYTE: usize = 108;
+pub const TRANSPORT_BUFFER_BYTES: u64 = 512;
+pub const TICKS_A_BYTE: u64 = 108;
+/// What a packet brings to the transport buffer and what that has room for, in 108ths of a byte: the ticks that they take to drain.
+pub const PACKET_TICKS: u64 = PACKET_BYTES as u64 * TICKS_A_BYTE;
+pub const ROOM_TICKS: u64 = TRANSPORT_BUFFER_BYTES * TICKS_A_BYTE;

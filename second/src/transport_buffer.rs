@@ -2,14 +2,8 @@
 
 use std::collections::VecDeque;
 
-use crate::numbers_of_the_house::{
-    PACKET_BYTES, TICKS_A_BYTE, TICKS_A_SECOND, TRANSPORT_BUFFER_BYTES,
-};
+use crate::numbers_of_the_house::{PACKET_TICKS, ROOM_TICKS, TICKS_A_SECOND};
 use crate::refusal_numbers::{demand, Refusal};
-
-/// How many 108ths of a byte a packet brings, and for how many the buffer has room.
-const PACKET: u128 = (PACKET_BYTES * TICKS_A_BYTE) as u128;
-const ROOM: u128 = (TRANSPORT_BUFFER_BYTES * TICKS_A_BYTE) as u128;
 
 /// One packet of a stream, as the caller lends it.
 #[derive(Clone, Copy, Debug, PartialEq, Eq)]
@@ -62,7 +56,7 @@ impl Buffer {
         if self.queue.is_empty() {
             self.since = self.now;
         }
-        self.queue.push_back(PACKET);
+        self.queue.push_back(u128::from(PACKET_TICKS));
     }
 
     /// Lets time go on: each tick takes a 108th from the front, and ticks that find nothing there are lost.
@@ -80,7 +74,7 @@ impl Buffer {
 
     /// Whether more is in the queue than the buffer has room for.
     fn overrun(&self) -> bool {
-        self.queue.iter().sum::<u128>() > ROOM
+        self.queue.iter().sum::<u128>() > u128::from(ROOM_TICKS)
     }
 
     /// Whether the last byte goes more than a second after the packet that found the buffer empty.

@@ -3,11 +3,12 @@
 use mathlib.Core.Path.{refl, sym}
 use Prim.Native.Nat.{_-_}
 use Rattle.buffer.specs.Laws.{BufferLaws}
+use Rattle.buffer.proofs.Arrivals.{counts, skips}
 use Rattle.buffer.proofs.Levels.{ticks-off}
 use Rattle.buffer.proofs.Found.{refused-exactly, given-exactly}
 use Rattle.buffer.proofs.Counted.{busy-time, late-exactly, first-to-linger}
 use Rattle.buffer.proofs.Named.{named, later}
-use Rattle.buffer.proofs.Others.{counts, skips, others, put-in}
+use Rattle.buffer.proofs.Others.{others, put-in}
 use Rattle.buffer.proofs.Spaced.{apart-passes, three-overrun}
 use Rattle.buffer.proofs.Agrees.{agrees}
 use Rattle.buffer.proofs.Examples.{examples}

@@ -78,7 +78,7 @@ first-to-linger pid rs i e =
         let before = few [] emptyBuffer 0 (d .earlier) tracks-none (h .steady) (d .kept) busy-none (omega arith) in
         let next = busy-next b (d .packet .tick) (before .0) (before .1) k in
         let one = one-at-most (leftAt b (d .packet .tick)) (before .0) in
-        let few = before .2 in
+        let l = before .2 in
         let w = busy .work in
         let v = next .work in
         omega arith

@@ -5,16 +5,17 @@ use mathlib.Core.Bool.{Bool, true, false, cond}
 use mathlib.Core.List.{List, [], _∷_, _++_, append-nil}
 use mathlib.Core.Logic.{_↔_}
 use Prim.Native.Nat.{ℕ, _≤_}
-use native.Mathlib.Omega.{arith}
 use lib.Seq.{append-snoc}
 use Rattle.ground.specs.Answer.{refused, given}
+use Rattle.ground.proofs.Answer.{given-apart, given-same, refused-same}
 use Rattle.buffer.specs.Verdict.{Finding, passes, overruns, lingers, Arrival, arrivals, Buffer, emptyBuffer, arrive, isTooHigh, isTooLate, firstBreak, goesBack, verdictOf}
 use Rattle.buffer.specs.Ticks.{upTo, Along, KeepsRules, TooHigh, TooLate, FirstTo, Finds, Falls, Rises}
 use Rattle.buffer.specs.Laws.{bufferAfter}
 use Rattle.buffer.specs.declared.Record.{Record}
 use Rattle.buffer.proofs.Rising.{Steady, test-steady, steady-test, steady-front, steady-rises, rises-steady, falls-not, test-falls}
 use Rattle.buffer.proofs.Tracked.{steady-behind, Tracks, tracks-none, tracks-next}
-use Rattle.buffer.proofs.LastEmpty.{along-more, tracks-along}
+use Rattle.buffer.proofs.Along.{along-more}
+use Rattle.buffer.proofs.LastEmpty.{tracks-along}
 use Rattle.buffer.proofs.Rules.{high-test, test-high, keeps-tests, tests-keep, late-tests, tests-late}
 
 -- ---- packets that keep both rules are passed over
@@ -82,8 +83,8 @@ pub refused-exactly : (pid : ℕ) (rs : List Record) (n : ℕ) → (verdictOf pi
 refused-exactly pid rs n = (λ e. there e (goesBack 0 (arrivals pid 0 rs)) refl, λ f. back f (goesBack 0 (arrivals pid 0 rs)) refl)
   where
     there : verdictOf pid rs ≡ refused n → (b : Bool) → goesBack 0 (arrivals pid 0 rs) ≡ b → (n ≡ 70) × Falls (arrivals pid 0 rs)
-    there e true g = let told = told-by pid rs true g in (cc, test-falls (arrivals pid 0 rs) g)
-    there e false g = let told = told-by pid rs false g in let z : _≡_ {A = ℕ} 0 1 = cc in absurd (omega arith)
+    there e true g = (refused-same (sym e ∙ told-by pid rs true g), test-falls (arrivals pid 0 rs) g)
+    there e false g = absurd (given-apart (sym (told-by pid rs false g) ∙ e))
 
     back : (n ≡ 70) × Falls (arrivals pid 0 rs) → (b : Bool) → goesBack 0 (arrivals pid 0 rs) ≡ b → verdictOf pid rs ≡ refused n
     back f true g = told-by pid rs true g ∙ ap refused (sym (f .0))
@@ -93,10 +94,9 @@ pub given-exactly : (pid : ℕ) (rs : List Record) (f : Finding) → (verdictOf 
 given-exactly pid rs f = (λ e. there e (goesBack 0 (arrivals pid 0 rs)) refl, back)
   where
     there : verdictOf pid rs ≡ given f → (b : Bool) → goesBack 0 (arrivals pid 0 rs) ≡ b → Rises (arrivals pid 0 rs) × Finds (arrivals pid 0 rs) f
-    there e true g = let told = told-by pid rs true g in let z : _≡_ {A = ℕ} 0 1 = cc in absurd (omega arith)
+    there e true g = absurd (given-apart (sym e ∙ told-by pid rs true g))
     there e false g =
-        let told = told-by pid rs false g in
-        let same : firstBreak emptyBuffer (arrivals pid 0 rs) ≡ f = cc in
+        let same = given-same (sym (told-by pid rs false g) ∙ e) in
         let s = test-steady 0 (arrivals pid 0 rs) g in
         (steady-rises 0 (arrivals pid 0 rs) s, rw same at (first-finds (arrivals pid 0 rs) s))
 

@@ -13,6 +13,7 @@ use Rattle.buffer.specs.Verdict.{Arrival, Buffer, emptyBuffer, leftAt, a
 use Rattle.buffer.specs.Model.{busyWith}
 use Rattle.buffer.specs.Ticks.{upTo, foundBy, Along, LastEmpty}
 use Rattle.buffer.specs.Laws.{bufferAfter, busyCount}
+use Rattle.buffer.proofs.Along.{along-more}
 use Rattle.buffer.proofs.Busy.{Busy, busy-next}
 use Rattle.buffer.proofs.Levels.{nothing}
 use Rattle.buffer.proofs.Rising.{Steady, steady-front}
@@ -23,18 +24,6 @@ abbrev FindsSome : List Arrival → Arrival → Type 0
 FindsSome earlier a = 0 < foundBy earlier a
 
 -- ---- there is one
--- one packet more of which P holds
-pub along-more : (P : List Arrival → Arrival → Type 0) (earlier packets : List Arrival) (a : Arrival) → Along P earlier packets → P (earlier ++ packets) a
-    → Along P earlier (packets ++ a ∷ [])
-along-more P earlier [] a s p = (rw append-nil at p, tt)
-along-more P earlier (x ∷ packets) a s p = (s .0, along-more P (upTo earlier x) packets a (s .1) (rw append-snoc p))
-
--- P holds of a packet among them
-pub along-at : (P : List Arrival → Arrival → Type 0) (earlier front : List Arrival) (a : Arrival) (back : List Arrival) → Along P earlier (front ++ a ∷ back)
-    → P (earlier ++ front) a
-along-at P earlier [] a back s = rw append-nil (s .0)
-along-at P earlier (x ∷ front) a back s = rw append-snoc at (along-at P (upTo earlier x) front a back (s .1))
-
 -- of some packets, e being the last so far, and of those that come after them
 abbrev Last : List Arrival → Arrival → List Arrival → List Arrival → Type 0
 Last before e after rest =

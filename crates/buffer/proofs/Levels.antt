@@ -22,20 +22,20 @@ ticks-off level zero = omega arith
 ticks-off level (suc ticks) = let e = ticks-off level ticks in tick-off (drains level ticks) ∙ omega arith
 
 -- ---- how many come at a tick
-abbrev at : ℕ → List ℕ → ℕ
-at t ticks = count (eqb t) ticks
+abbrev comeAt : ℕ → List ℕ → ℕ
+comeAt t ticks = count (eqb t) ticks
 
-none-at : (t last : ℕ) (ticks : List ℕ) → Every (λ (u : ℕ). u ≤ last) ticks → last < t → at t ticks ≡ 0
+none-at : (t last : ℕ) (ticks : List ℕ) → Every (λ (u : ℕ). u ≤ last) ticks → last < t → comeAt t ticks ≡ 0
 none-at t last [] h k = refl
 none-at t last (u ∷ ticks) h k = rw (ne-eqb t u (λ e. let l = h .0 in absurd (omega arith))) (omega (arith, none-at t last ticks (h .1) k))
 
 -- the last packet comes at its tick
-one-more : (t : ℕ) (ticks : List ℕ) → at t (ticks ++ t ∷ []) ≡ at t ticks + 1
-one-more t ticks = total-append (λ (u : ℕ). cond (eqb t u) 1 0) ticks (t ∷ []) ∙ rw (eq-eqb t t refl)
+comes-then : (t : ℕ) (ticks : List ℕ) → comeAt t (ticks ++ t ∷ []) ≡ comeAt t ticks + 1
+comes-then t ticks = total-append (λ (u : ℕ). cond (eqb t u) 1 0) ticks (t ∷ []) ∙ rw (eq-eqb t t refl)
 
 -- and at no other
-no-more : (t u : ℕ) (ticks : List ℕ) → (u ≡ t → ⊥) → at u (ticks ++ t ∷ []) ≡ at u ticks
-no-more t u ticks n = total-append (λ (x : ℕ). cond (eqb u x) 1 0) ticks (t ∷ []) ∙ rw (ne-eqb u t n) (omega arith)
+comes-not : (t u : ℕ) (ticks : List ℕ) → (u ≡ t → ⊥) → comeAt u (ticks ++ t ∷ []) ≡ comeAt u ticks
+comes-not t u ticks n = total-append (λ (x : ℕ). cond (eqb u x) 1 0) ticks (t ∷ []) ∙ rw (ne-eqb u t n) (omega arith)
 
 -- ---- the level
 -- after the last packet it falls by one a tick
@@ -49,13 +49,13 @@ quiet ticks last (suc t) h =
 
 -- before a packet comes, it changes nothing
 pub unchanged : (t u : ℕ) (ticks : List ℕ) → u < t → levelAt (ticks ++ t ∷ []) u ≡ levelAt ticks u
-unchanged t zero ticks l = rw (no-more t zero ticks (λ e. absurd (omega arith)))
-unchanged t (suc u) ticks l = rw (no-more t (suc u) ticks (λ e. absurd (omega arith)), unchanged t u ticks (omega arith))
+unchanged t zero ticks l = rw (comes-not t zero ticks (λ e. absurd (omega arith)))
+unchanged t (suc u) ticks l = rw (comes-not t (suc u) ticks (λ e. absurd (omega arith)), unchanged t u ticks (omega arith))
 
 -- at its tick it brings 20,304
 pub brings : (t : ℕ) (ticks : List ℕ) → levelAt (ticks ++ t ∷ []) t ≡ levelAt ticks t + 20304
-brings zero ticks = rw (one-more zero ticks) (omega arith)
-brings (suc t) ticks = rw (one-more (suc t) ticks, unchanged (suc t) t ticks (omega arith)) (omega arith)
+brings zero ticks = rw (comes-then zero ticks) (omega arith)
+brings (suc t) ticks = rw (comes-then (suc t) ticks, unchanged (suc t) t ticks (omega arith)) (omega arith)
 
 -- with no packet there is none
 pub nothing : (t : ℕ) → levelAt [] t ≡ 0

@@ -2,6 +2,8 @@ pub mod Busy
 pub mod Agrees
 pub mod Walking
 pub mod Answered
+pub mod Arrivals
+pub mod Along
 pub mod Rising
 pub mod Levels
 pub mod Tracked

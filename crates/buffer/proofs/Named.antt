@@ -14,25 +14,12 @@ use Rattle.buffer.specs.Verdict.{Finding, passes, overruns, lingers, Arr
 use Rattle.buffer.specs.Ticks.{upTo, TooHigh, TooLate, FirstTo, Finds, Rises}
 use Rattle.buffer.specs.Laws.{Names, Stands}
 use Rattle.buffer.specs.declared.Record.{Record}
+use Rattle.buffer.proofs.Arrivals.{arrivals-append}
 use Rattle.buffer.proofs.Rising.{test-steady, steady-front, steady-rises, rises-steady}
 use Rattle.buffer.proofs.Found.{told-by, given-exactly}
 
--- ---- the packets of records and records
-pub arrivals-append : (pid i : ℕ) (front back : List Record) → arrivals pid i (front ++ back) ≡ arrivals pid i front ++ arrivals pid (i + length front) back
-arrivals-append pid i [] back = rw add-zero
-arrivals-append pid i (r ∷ front) back = go (isOf pid r) (arrivals-append pid (suc i) front back)
-  where
-    sum : i + suc (length front) ≡ suc i + length front
-    sum = omega arith
-
-    go : (own : Bool) → arrivals pid (suc i) (front ++ back) ≡ arrivals pid (suc i) front ++ arrivals pid (suc i + length front) back
-        → cond own (record { index = i; tick = r .tick } ∷ arrivals pid (suc i) (front ++ back)) (arrivals pid (suc i) (front ++ back))
-        ≡ cond own (record { index = i; tick = r .tick } ∷ arrivals pid (suc i) front) (arrivals pid (suc i) front) ++ arrivals pid (i + suc (length front)) back
-    go true e = rw sum (ap (λ (l : List Arrival). record { index = i; tick = r .tick } ∷ l) e)
-    go false e = rw sum e
-
 -- ---- where a packet's record stands
-record Standing (pid i : ℕ) (rs : List Record) (earlier : List Arrival) (a : Arrival) : Type 0 where
+record Source (pid i : ℕ) (rs : List Record) (earlier : List Arrival) (a : Arrival) : Type 0 where
   pub front : List Record
   pub own : Record
   pub back : List Record
@@ -43,8 +30,8 @@ record Standing (pid i : ℕ) (rs : List Record) (earlier : List Arrival) (a : A
   pub before : arrivals pid i front ≡ earlier
 
 -- with one record more in front
-further : (pid i : ℕ) (r : Record) (rs : List Record) (earlier before : List Arrival) (a : Arrival) → Standing pid (suc i) rs earlier a
-    → ((front : List Record) → arrivals pid (suc i) front ≡ earlier → arrivals pid i (r ∷ front) ≡ before) → Standing pid i (r ∷ rs) before a
+further : (pid i : ℕ) (r : Record) (rs : List Record) (earlier before : List Arrival) (a : Arrival) → Source pid (suc i) rs earlier a
+    → ((front : List Record) → arrivals pid (suc i) front ≡ earlier → arrivals pid i (r ∷ front) ≡ before) → Source pid i (r ∷ rs) before a
 further pid i r rs earlier before a s on =
     let p = s .place in
     record {
@@ -58,11 +45,11 @@ further pid i r rs earlier before a s on =
       before = on (s .front) (s .before);
     }
 
-standing : (pid i : ℕ) (rs : List Record) (earlier : List Arrival) (a : Arrival) (later : List Arrival) → arrivals pid i rs ≡ earlier ++ a ∷ later
-    → Standing pid i rs earlier a
-standing pid i [] [] a later e = let z : _≡_ {A = ℕ} 0 1 = cc in absurd (omega arith)
-standing pid i [] (x ∷ earlier) a later e = let z : _≡_ {A = ℕ} 0 1 = cc in absurd (omega arith)
-standing pid i (r ∷ rs) earlier a later e = go (isOf pid r) refl earlier (standing pid (suc i) rs) e
+source : (pid i : ℕ) (rs : List Record) (earlier : List Arrival) (a : Arrival) (later : List Arrival) → arrivals pid i rs ≡ earlier ++ a ∷ later
+    → Source pid i rs earlier a
+source pid i [] [] a later e = let z : _≡_ {A = ℕ} 0 1 = cc in absurd (omega arith)
+source pid i [] (x ∷ earlier) a later e = let z : _≡_ {A = ℕ} 0 1 = cc in absurd (omega arith)
+source pid i (r ∷ rs) earlier a later e = go (isOf pid r) refl earlier (source pid (suc i) rs) e
   where
     rest : List Arrival
     rest = arrivals pid (suc i) rs
@@ -71,8 +58,8 @@ standing pid i (r ∷ rs) earlier a later e = go (isOf pid r) refl earlier (stan
     first = record { index = i; tick = r .tick }
 
     go : (own : Bool) → isOf pid r ≡ own → (earlier : List Arrival)
-        → ((earlier : List Arrival) (a : Arrival) (later : List Arrival) → rest ≡ earlier ++ a ∷ later → Standing pid (suc i) rs earlier a)
-        → cond own (first ∷ rest) rest ≡ earlier ++ a ∷ later → Standing pid i (r ∷ rs) earlier a
+        → ((earlier : List Arrival) (a : Arrival) (later : List Arrival) → rest ≡ earlier ++ a ∷ later → Source pid (suc i) rs earlier a)
+        → cond own (first ∷ rest) rest ≡ earlier ++ a ∷ later → Source pid i (r ∷ rs) earlier a
     go true o [] on e =
         let same : first ≡ a = cc in
         record {
@@ -96,8 +83,8 @@ rises-front front back r = steady-rises 0 front (steady-front 0 front back (rise
 
 -- ---- the record that is named
 module _ (pid : ℕ) (rs : List Record) (i : ℕ) (Breaks : List Arrival → Arrival → Type 0) (d : FirstTo Breaks (arrivals pid 0 rs) i) where
-  there : Standing pid 0 rs (d .earlier) (d .packet)
-  there = standing pid 0 rs (d .earlier) (d .packet) (d .later) (d .split)
+  there : Source pid 0 rs (d .earlier) (d .packet)
+  there = source pid 0 rs (d .earlier) (d .packet) (d .later) (d .split)
 
   -- the packets up to it
   up-to-it : arrivals pid 0 (there .front ++ there .own ∷ []) ≡ upTo (d .earlier) (d .packet)

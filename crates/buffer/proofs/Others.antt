@@ -5,7 +5,7 @@ use mathlib.Core.Bool.{Bool, true, false, cond, _||_}
 use mathlib.Core.List.{List, [], _∷_, _++_, map, map-append, append-nil}
 use Prim.Native.Nat.{ℕ, suc, _+_, _≤_}
 use native.Mathlib.Omega.{arith}
-use borrow.Author.Tests.{lt-ltb, le-ltb, eq-eqb, ne-eqb}
+use borrow.Author.Tests.{lt-ltb, le-ltb}
 use lib.Dec.{ltb}
 use lib.ListN.{length, length-append}
 use lib.Seq.{append-snoc, take-append-seam}
@@ -15,14 +15,7 @@ use Rattle.ground.proofs.Walk.{total-append}
 use Rattle.buffer.specs.Verdict.{overruns, lingers, Arrival, isOf, arrivals, Buffer, emptyBuffer, arrive, isTooHigh, isTooLate, firstBreak, goesBack, verdictOf}
 use Rattle.buffer.specs.Laws.{renamed, retold, ownBefore, movedOn}
 use Rattle.buffer.specs.declared.Record.{Record}
-use Rattle.buffer.proofs.Named.{arrivals-append}
-
--- ---- a record of the PID, and one of another
-pub counts : (pid i : ℕ) (r : Record) (rs : List Record) → r .pid .0 ≡ pid → arrivals pid i (r ∷ rs) ≡ record { index = i; tick = r .tick } ∷ arrivals pid (suc i) rs
-counts pid i r rs e = rw (eq-eqb (r .pid .0) pid e)
-
-pub skips : (pid i : ℕ) (r : Record) (rs : List Record) → (r .pid .0 ≡ pid → ⊥) → arrivals pid i (r ∷ rs) ≡ arrivals pid (suc i) rs
-skips pid i r rs n = rw (ne-eqb (r .pid .0) pid n)
+use Rattle.buffer.proofs.Arrivals.{skips, arrivals-append}
 
 -- ---- the same packets, their records with other indices
 module _ (f : ℕ → ℕ) where
@@ -59,31 +52,31 @@ module _ (f : ℕ → ℕ) where
 
 -- ---- the packets of the PID alone
 module _ (pid : ℕ) where
-  abbrev own : List Record → ℕ
-  own rs = count (isOf pid) rs
+  abbrev ownIn : List Record → ℕ
+  ownIn rs = count (isOf pid) rs
 
   -- rs behind front
-  alone-from : (front rs : List Record) → arrivals pid (own front) (keep (isOf pid) rs) ≡ reindexed (ownBefore pid (front ++ rs)) (arrivals pid (length front) rs)
+  alone-from : (front rs : List Record) → arrivals pid (ownIn front) (keep (isOf pid) rs) ≡ reindexed (ownBefore pid (front ++ rs)) (arrivals pid (length front) rs)
   alone-from front [] = refl
   alone-from front (r ∷ rs) = go (isOf pid r) refl (rw (append-snoc, size) at (alone-from (front ++ r ∷ []) rs))
     where
       size : length (front ++ r ∷ []) ≡ suc (length front)
       size = length-append front (r ∷ []) ∙ omega arith
 
-      before : ownBefore pid (front ++ r ∷ rs) (length front) ≡ own front
-      before = ap own (take-append-seam front (r ∷ rs))
+      before : ownBefore pid (front ++ r ∷ rs) (length front) ≡ ownIn front
+      before = ap ownIn (take-append-seam front (r ∷ rs))
 
-      one : isOf pid r ≡ true → own (front ++ r ∷ []) ≡ suc (own front)
+      one : isOf pid r ≡ true → ownIn (front ++ r ∷ []) ≡ suc (ownIn front)
       one e = total-append (λ (x : Record). cond (isOf pid x) 1 0) front (r ∷ []) ∙ rw e (omega arith)
 
-      none : isOf pid r ≡ false → own (front ++ r ∷ []) ≡ own front
+      none : isOf pid r ≡ false → ownIn (front ++ r ∷ []) ≡ ownIn front
       none e = total-append (λ (x : Record). cond (isOf pid x) 1 0) front (r ∷ []) ∙ rw e (omega arith)
 
       go : (b : Bool) → isOf pid r ≡ b
-          → arrivals pid (own (front ++ r ∷ [])) (keep (isOf pid) rs) ≡ reindexed (ownBefore pid (front ++ r ∷ rs)) (arrivals pid (suc (length front)) rs)
-          → arrivals pid (own front) (cond b (r ∷ keep (isOf pid) rs) (keep (isOf pid) rs))
+          → arrivals pid (ownIn (front ++ r ∷ [])) (keep (isOf pid) rs) ≡ reindexed (ownBefore pid (front ++ r ∷ rs)) (arrivals pid (suc (length front)) rs)
+          → arrivals pid (ownIn front) (cond b (r ∷ keep (isOf pid) rs) (keep (isOf pid) rs))
           ≡ reindexed (ownBefore pid (front ++ r ∷ rs)) (cond b (record { index = length front; tick = r .tick } ∷ arrivals pid (suc (length front)) rs) (arrivals pid (suc (length front)) rs))
-      go true e on = rw (e, before) (ap (λ (l : List Arrival). record { index = own front; tick = r .tick } ∷ l) (rw (one e) at on))
+      go true e on = rw (e, before) (ap (λ (l : List Arrival). record { index = ownIn front; tick = r .tick } ∷ l) (rw (one e) at on))
       go false e on = rw (none e) at on
 
   pub others : (xs ys : List Record) → keep (isOf pid) xs ≡ keep (isOf pid) ys → retold (ownBefore pid xs) (verdictOf pid xs) ≡ retold (ownBefore pid ys) (verdictOf pid ys)

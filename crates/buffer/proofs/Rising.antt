@@ -34,8 +34,8 @@ steady-front t (a ∷ front) back s = (s .0, steady-front (a .tick) front back (
 
 -- ---- any two successive packets
 -- with one more in front
-pub behind : (x a b : Arrival) (packets : List Arrival) → Successive packets a b → Successive (x ∷ packets) a b
-behind x a b packets s = record { front = x ∷ s .front; back = s .back; split = ap (λ (l : List Arrival). x ∷ l) (s .split) }
+pub one-in-front : (x a b : Arrival) (packets : List Arrival) → Successive packets a b → Successive (x ∷ packets) a b
+one-in-front x a b packets s = record { front = x ∷ s .front; back = s .back; split = ap (λ (l : List Arrival). x ∷ l) (s .split) }
 
 pub at-front : (a b : Arrival) (more : List Arrival) → Successive (a ∷ b ∷ more) a b
 at-front a b more = record { front = []; back = more; split = refl }
@@ -53,7 +53,7 @@ rises-steady (a ∷ more) r = (omega arith, go a more r)
   where
     go : (a : Arrival) (more : List Arrival) → Rises (a ∷ more) → Steady (a .tick) more
     go a [] r = tt
-    go a (b ∷ more) r = (r a b (at-front a b more), go b more (λ x y s. r x y (behind a x y (b ∷ more) s)))
+    go a (b ∷ more) r = (r a b (at-front a b more), go b more (λ x y s. r x y (one-in-front a x y (b ∷ more) s)))
 
 -- ---- a tick that falls
 pub falls-not : (t : ℕ) (packets : List Arrival) → Falls packets → Steady t packets → ⊥
@@ -66,7 +66,7 @@ test-falls (a ∷ more) e = go a more (rw (le-ltb (a .tick) 0 (omega arith)) at 
     here : (a b : Arrival) (more : List Arrival) (low : Bool) → ltb (b .tick) (a .tick) ≡ low → (goesBack (b .tick) more ≡ true → Falls (b ∷ more))
         → (low || goesBack (b .tick) more) ≡ true → Falls (a ∷ b ∷ more)
     here a b more true e on f = (a, b, at-front a b more, ltb-true (b .tick) (a .tick) e)
-    here a b more false e on f = let found = on f in (found .0, found .1, behind a (found .0) (found .1) (b ∷ more) (found .2), found .3)
+    here a b more false e on f = let found = on f in (found .0, found .1, one-in-front a (found .0) (found .1) (b ∷ more) (found .2), found .3)
 
     go : (a : Arrival) (more : List Arrival) → goesBack (a .tick) more ≡ true → Falls (a ∷ more)
     go a [] e = absurd (false≢true e)

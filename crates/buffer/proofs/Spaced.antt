@@ -11,10 +11,10 @@ use Rattle.ground.specs.Answer.{given}
 use Rattle.buffer.specs.Verdict.{passes, Arrival, arrivals, Buffer, emptyBuffer, leftAt, arrive, isTooHigh, isTooLate, firstBreak, verdictOf}
 use Rattle.buffer.specs.Ticks.{levelAt, upTo, ticksOf, KeepsRules, Successive}
 use Rattle.buffer.specs.declared.Record.{Record}
-use Rattle.buffer.proofs.Rising.{at-front, behind, rises-steady, steady-test}
+use Rattle.buffer.proofs.Rising.{at-front, one-in-front, rises-steady, steady-test}
 use Rattle.buffer.proofs.Levels.{brings}
 use Rattle.buffer.proofs.Tracked.{ticks-up-to}
-use Rattle.buffer.proofs.LastEmpty.{along-at}
+use Rattle.buffer.proofs.Along.{along-at}
 use Rattle.buffer.proofs.Found.{told-by, given-exactly}
 
 abbrev Apart : List Arrival → Type 0
@@ -31,7 +31,7 @@ passed b a [] l apart = let kept = alone b (a .tick) l in rw (kept .0, kept .1)
 passed b a (c ∷ packets) l apart =
     let kept = alone b (a .tick) l in
     let next = apart a c (at-front a c packets) in
-    rw (kept .0, kept .1) (passed (arrive b (a .tick)) c packets (omega arith) (λ x y s. apart x y (behind a x y (c ∷ packets) s)))
+    rw (kept .0, kept .1) (passed (arrive b (a .tick)) c packets (omega arith) (λ x y s. apart x y (one-in-front a x y (c ∷ packets) s)))
 
 pub apart-passes : (pid : ℕ) (rs : List Record) → Apart (arrivals pid 0 rs) → verdictOf pid rs ≡ given passes
 apart-passes pid rs apart =

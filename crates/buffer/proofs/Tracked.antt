@@ -66,12 +66,12 @@ module _ (packets : List Arrival) (b : Buffer) (a : Arrival) (h : Tracks packets
       weaker (t ∷ ticks) e = (omega (arith, e .0), weaker ticks (e .1))
 
   -- before its tick nothing has changed
-  before : (t : ℕ) → t < a .tick → levelAt (ticksOf (upTo packets a)) t ≡ levelAt (ticksOf packets) t
-  before t l = rw (ticks-up-to packets a) (unchanged (a .tick) t (ticksOf packets) l)
+  as-before : (t : ℕ) → t < a .tick → levelAt (ticksOf (upTo packets a)) t ≡ levelAt (ticksOf packets) t
+  as-before t l = rw (ticks-up-to packets a) (unchanged (a .tick) t (ticksOf packets) l)
 
   -- from it on the level falls by one a tick
-  behind : (t : ℕ) → a .tick ≤ t → levelAt (ticksOf (upTo packets a)) t ≡ leftAt b (a .tick) + 20304 - (t - a .tick)
-  behind t l =
+  from-then : (t : ℕ) → a .tick ≤ t → levelAt (ticksOf (upTo packets a)) t ≡ leftAt b (a .tick) + 20304 - (t - a .tick)
+  from-then t l =
       let e : a .tick + (t - a .tick) ≡ t = omega arith in
       ap (levelAt (ticksOf (upTo packets a))) (sym e) ∙ quiet (ticksOf (upTo packets a)) (a .tick) (t - a .tick) bounded
       ∙ ap (λ (n : ℕ). n - (t - a .tick)) left-is
@@ -83,13 +83,12 @@ module _ (packets : List Arrival) (b : Buffer) (a : Arrival) (h : Tracks packets
   next-steady = steady-more emptyBuffer packets a (h .steady) (rw (h .is) k)
 
   -- the level is above 0 from its tick until it has drained, and where it was so before, from then on
-  stays-busy : (since t : ℕ) → since ≤ t → t < a .tick + (leftAt b (a .tick) + 20304) → (t < a .tick → 0 < levelAt (ticksOf packets) t)
-      → 0 < levelAt (ticksOf (upTo packets a)) t
-  stays-busy since t l m earlier = now (decLt t (a .tick))
+  stays-busy : (t : ℕ) → t < a .tick + (leftAt b (a .tick) + 20304) → (t < a .tick → 0 < levelAt (ticksOf packets) t) → 0 < levelAt (ticksOf (upTo packets a)) t
+  stays-busy t m earlier = now (decLt t (a .tick))
     where
       now : Dec (t < a .tick) → 0 < levelAt (ticksOf (upTo packets a)) t
-      now (yes less) = rw (before t less) (earlier less)
-      now (no more) = let e = behind t (omega arith) in omega arith
+      now (yes less) = rw (as-before t less) (earlier less)
+      now (no more) = let e = from-then t (omega arith) in omega arith
 
   -- by the tick of the last packet that found the buffer empty
   tracks-since : (since : ℕ) → arrive b (a .tick) .since ≡ since → since ≤ a .tick → ((t : ℕ) → since ≤ t → t < a .tick → 0 < levelAt (ticksOf packets) t)
@@ -101,7 +100,7 @@ module _ (packets : List Arrival) (b : Buffer) (a : Arrival) (h : Tracks packets
         bound = bounded;
         level = left-is;
         early = rw e early;
-        busy = λ t l m. let k : since ≤ t = rw (← e) l in stays-busy since t k m (earlier t k);
+        busy = λ t l m. let k : since ≤ t = rw (← e) l in stays-busy t m (earlier t k);
       }
 
   pub tracks-next : Tracks (upTo packets a) (arrive b (a .tick))

@@ -1,11 +1,12 @@
 //! The rows that lines of `clear` and `arrive` make, for what verdicts on them do not tell.
 
-/// What a packet brings and what the buffer has room for, in the ticks that they take to drain.
-const PACKET: u128 = 20_304;
-const BRIM: u128 = 55_296;
+use crate::numbers_of_the_house::{PACKET_TICKS, ROOM_TICKS, TICKS_A_SECOND};
+
+const PACKET: u128 = PACKET_TICKS as u128;
+const BRIM: u128 = ROOM_TICKS as u128;
 
 /// The longest time from a packet that finds the buffer empty until it is empty again.
-const LONGEST: u128 = 27_000_000;
+const LONGEST: u128 = TICKS_A_SECOND as u128;
 
 /// The ticks and PIDs of the row; one of which lines are missing counts as empty.
 ///

@@ -2,10 +2,7 @@
 
 use super::super::random::Random;
 use super::rows::ROW;
-
-/// What a packet brings and what the buffer has room for, in the ticks that they take to drain.
-const PACKET: u64 = 20_304;
-const BRIM: u64 = 55_296;
+use crate::numbers_of_the_house::{PACKET_TICKS, ROOM_TICKS};
 
 /// How many packets a busy time can have before it is too long, and some more or less.
 const BUSY: [usize; 8] = [1_327, 1_328, 1_329, 1_329, 1_330, 1_330, 1_331, 1_332];
@@ -35,7 +32,7 @@ impl Walk {
         let last = self.ticks.last().copied();
         let tick = last.map_or(0, |last| last.saturating_add(gap));
         let gone = tick - last.unwrap_or(0);
-        self.level = self.level.saturating_sub(gone) + PACKET;
+        self.level = self.level.saturating_sub(gone) + PACKET_TICKS;
         self.ticks.push(tick);
     }
 
@@ -45,15 +42,15 @@ impl Walk {
 
     /// The least gap after which a packet fits.
     fn to_brim(&self) -> u64 {
-        (self.level + PACKET).saturating_sub(BRIM)
+        (self.level + PACKET_TICKS).saturating_sub(ROOM_TICKS)
     }
 
     /// A gap at which so many packets fit and none finds the buffer empty, at times the longest.
     fn busy_gap(&self, random: &mut Random, many: usize) -> u64 {
-        let room = BRIM.saturating_sub(self.level) / many as u64;
-        let least = usize::from(self.level <= PACKET);
-        let any = random.between(least, room.min(PACKET) as usize);
-        PACKET - random.pick(&[least, any, any]) as u64
+        let room = ROOM_TICKS.saturating_sub(self.level) / many as u64;
+        let least = usize::from(self.level <= PACKET_TICKS);
+        let any = random.between(least, room.min(PACKET_TICKS) as usize);
+        PACKET_TICKS - random.pick(&[least, any, any]) as u64
     }
 
     /// So many packets more that fit and do not find the buffer empty, at one gap or at several.
@@ -94,7 +91,7 @@ fn aimed(random: &mut Random, walk: &mut Walk) {
             2 | 3 => near(random, walk.to_brim()),
             4 | 5 => near(random, walk.level),
             6 => idle(random, walk),
-            _ => random.below(PACKET as usize) as u64,
+            _ => random.below(PACKET_TICKS as usize) as u64,
         };
         walk.step(gap);
     }
@@ -109,9 +106,9 @@ fn idle(random: &mut Random, walk: &Walk) -> u64 {
 /// Packets at one spacing: the least at which so many fit, or one that the request's numbers make.
 fn even(random: &mut Random, walk: &mut Walk) {
     let many = random.between(3, 13);
-    let [gaps, excess] = [many as u64 - 1, many as u64 * PACKET - BRIM];
+    let [gaps, excess] = [many as u64 - 1, many as u64 * PACKET_TICKS - ROOM_TICKS];
     let least = (excess + gaps - 1) / gaps;
-    let spacing = random.pick(&[least, least, PACKET, PACKET / 2, 5_616, 2_808]);
+    let spacing = random.pick(&[least, least, PACKET_TICKS, PACKET_TICKS / 2, 5_616, 2_808]);
     walk.steps(near(random, spacing), random.between(many - 1, many + 1));
 }
 
@@ -160,7 +157,7 @@ fn both(random: &mut Random, walk: &mut Walk) {
 fn full(random: &mut Random, walk: &mut Walk) {
     let missing = random.pick(&[0, 0, 0, 1, 2, 24, 26, 27, 28, 36]);
     let more = random.next() >> random.between(12, 63);
-    let spacing = random.pick(&[PACKET, PACKET - missing, PACKET + more]);
+    let spacing = random.pick(&[PACKET_TICKS, PACKET_TICKS - missing, PACKET_TICKS + more]);
     let burst = random.pick(&[0, 1, 2, 2]);
     walk.steps(spacing, random.pick(&[ROW - 1, ROW, ROW]) - burst);
     walk.steps(0, burst);
