@@ -1,4 +1,6 @@
 // Calls the driver, CRC_32 and the tables on bytes that it makes itself, so that what a call costs can be counted: docs/COST.md has the scenarios.
+#![tactic(auto)]
+
 mod at_once;
 mod filters;
 mod made;

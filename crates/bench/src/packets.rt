@@ -4,7 +4,7 @@ use driver::{Handling, State};
 use packet::PACKET_BYTES;
 
 // What the packets brought in all: a reader sees by it that two builds did the same work.
-#[derive(Drop)]
+#[derive(Clone, Copy)]
 pub(crate) struct Sums {
     pub(crate) packets: u64,
     pub(crate) sections: u64,
@@ -17,7 +17,7 @@ pub(crate) struct Sums {
 type List = [u32; driver::LEAST_LIST];
 
 // What goes from packet to packet.
-#[derive(Drop)]
+#[derive(Clone, Copy)]
 struct Run {
     state: State,
     sums: Sums,

@@ -23,7 +23,7 @@ const OTHER_PID: u16 = 0x200;
 type Stream = [u8; 3850240];
 
 // Where a wanted packet goes: which of the PIDs, and which of the PID's packets it is.
-#[derive(Drop)]
+#[derive(Clone, Copy)]
 struct Turn {
     pid: usize,
     number: usize,

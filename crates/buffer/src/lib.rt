@@ -1,4 +1,6 @@
 // The transport buffer of the decoder model (H.222.0 2.4.2): whether the packets of an audio PID overrun it.
+#![tactic(auto)]
+
 ghost use Rattle.std.specs.Prelude.{take};
 ghost use Rattle.buffer.specs.Promises.{Judges};
 
@@ -10,14 +12,14 @@ pub mod laws;
 mod model;
 
 // A packet's tick of 27 MHz, and its PID.
-#[derive(Drop)]
+#[derive(Clone, Copy)]
 pub struct Record {
     pub tick: u64,
     pub pid: Pid,
 }
 
 // Whether the packets of a PID pass, or the first record that breaks a rule, by its index.
-#[derive(Drop)]
+#[derive(Clone, Copy)]
 pub enum Verdict {
     Passes,
     Overruns(usize),

@@ -14,7 +14,7 @@ const ROOM: u64 = 55_296;
 const MOST_BUSY: u64 = 1_329;
 
 // What is known after some records: whose packets count; of the last one its tick, the level that it left, and how many came since the buffer was found empty; and the verdict so far.
-#[derive(Drop)]
+#[derive(Clone, Copy)]
 pub(crate) struct Judging {
     pub pid: u16,
     pub last: u64,

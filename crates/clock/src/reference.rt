@@ -8,16 +8,16 @@ use crate::Written;
 use octets::number_of_six;
 
 // A count of 27 MHz. A number of 300·2^33 or above can be made, and every call refuses it.
-#[derive(Drop)]
+#[derive(Clone, Copy)]
 pub struct Reference(pub u64);
 
-#[derive(Drop)]
+#[derive(Clone, Copy)]
 pub enum Reading {
     Value(Reference),
     Refused(u8),
 }
 
-#[derive(Drop)]
+#[derive(Clone, Copy)]
 pub enum Ahead {
     Ticks(u64),
     Refused(u8),

@@ -8,23 +8,23 @@ use crate::Written;
 use octets::number_of_five;
 
 // A count of 90 kHz. A number of 2^33 or above can be made, and every call refuses it.
-#[derive(Drop)]
+#[derive(Clone, Copy)]
 pub struct Stamp(pub u64);
 
-#[derive(Drop)]
+#[derive(Clone, Copy)]
 pub enum Reading {
     Value(Stamp),
     Refused(u8),
 }
 
 // A stamp and the four bits before it.
-#[derive(Drop)]
+#[derive(Clone, Copy)]
 pub enum AnyReading {
     Value { prefix: u8, stamp: Stamp },
     Refused(u8),
 }
 
-#[derive(Drop)]
+#[derive(Clone, Copy)]
 pub enum Apart {
     Signed(i64),
     Refused(u8),

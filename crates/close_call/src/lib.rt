@@ -1,4 +1,6 @@
 // Close: a filter leaves its place, and the last one on an area frees it.
+#![tactic(auto)]
+
 ghost use Rattle.std.specs.Prelude.{◌≡◌, ◌<◌, get_or};
 ghost use Rattle.state.specs.State.{free_area};
 ghost use Rattle.close_call.specs.Close.{area_at, without_user, without_filter};
@@ -9,13 +11,13 @@ use pid::Pid;
 use sound::is_sound;
 use state::{Area, Filter, PLACES, State, place_of};
 
-#[derive(Drop)]
+#[derive(Clone, Copy)]
 pub enum Closing {
     Closed,
     Refused(u8),
 }
 
-#[derive(Drop)]
+#[derive(Clone, Copy)]
 pub struct Closed {
     pub state: State,
     pub answer: Closing,

@@ -1,4 +1,6 @@
 // CRC_32 of H.222.0 Annex A, driven by tables that take four bytes at once.
+#![tactic(auto)]
+
 ghost use Rattle.std.specs.Prelude.{◌≡◌, [], ◌∷◌, ◌<◌, ◌≤◌, length};
 ghost use Rattle.crc.specs.Promises.{GivesResidue};
 ghost use Rattle.crc.specs.Steps.{Starts, Enters, in_place};

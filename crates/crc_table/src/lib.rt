@@ -1,4 +1,6 @@
 // What 32 shifts without input make of CRC_32's register, by its four bytes: the shifts are linear, so it is the sum of what they make of each byte.
+#![tactic(auto)]
+
 ghost use Rattle.std.specs.Prelude.{◌≡◌};
 ghost use Rattle.crc_table.specs.Table.{shift_of, shifts};
 ghost use Rattle.crc_table.specs.Promises.{GivesThrough};

@@ -6,7 +6,7 @@ use buffer::{Record, Verdict};
 use pid::Pid;
 
 // How many records the row has, and the end of the text, after a line.
-#[derive(Drop)]
+#[derive(Clone, Copy)]
 pub(crate) struct Kept {
     pub(crate) size: usize,
     pub(crate) at: usize,

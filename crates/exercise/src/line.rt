@@ -5,7 +5,7 @@ ghost use Rattle.std.specs.Prelude.{◌≡◌, ◌<◌};
 pub(crate) type Values = [u64; 7];
 
 // What the next byte belongs to.
-#[derive(Drop)]
+#[derive(Clone, Copy)]
 enum Part {
     Word,
     Number,
@@ -14,7 +14,7 @@ enum Part {
 }
 
 // A line so far. The word is its letters as digits to the base 32; the line's bytes stand in a buffer beside it.
-#[derive(Drop)]
+#[derive(Clone, Copy)]
 pub(crate) struct Line {
     part: Part,
     pub(crate) word: u64,

@@ -1,4 +1,6 @@
 // Reads a script of calls and writes each outcome whole: docs/EXERCISE.md has the format.
+#![tactic(auto)]
+
 mod buffer_calls;
 mod buffers;
 mod line;
@@ -15,7 +17,7 @@ use driver::State;
 use libc::{STDIN_FILENO, STDOUT_FILENO};
 
 // What goes on from line to line: the state, how many records the row has, the line that has begun, where the piece goes on, where the text ends, and whether to go on.
-#[derive(Drop)]
+#[derive(Clone, Copy)]
 struct Turn {
     state: State,
     size: usize,
@@ -26,7 +28,7 @@ struct Turn {
 }
 
 // A line so far, where in the piece it goes on, and whether it has ended.
-#[derive(Drop)]
+#[derive(Clone, Copy)]
 struct Taken {
     line: Line,
     next: usize,

@@ -7,7 +7,7 @@ use driver::{Choice, Closing, Handled, Handling, Opening, Report, State};
 use pid::Pid;
 
 // The state and the end of the text after a line.
-#[derive(Drop)]
+#[derive(Clone, Copy)]
 pub(crate) struct After {
     pub(crate) state: State,
     pub(crate) at: usize,

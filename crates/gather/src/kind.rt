@@ -6,7 +6,7 @@ ghost use Rattle.gather.specs.Kind.{kind_of, classify};
 use octets::byte_at;
 use section::{LONGEST_LENGTH, length_of};
 
-#[derive(Drop)]
+#[derive(Clone, Copy)]
 pub enum Kind {
     // the bytes end, or 0xFF stands where a table_id should
     Nothing,

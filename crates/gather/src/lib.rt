@@ -1,4 +1,6 @@
 // From payload to sections: the rule on an area of the store and on the output.
+#![tactic(auto)]
+
 mod kind;
 mod measure;
 mod memory;
@@ -25,7 +27,7 @@ pub const LEAST_OUTPUT: usize = 4278;
 pub const PAYLOAD_BYTES: usize = 184;
 
 // What the rule reads of an area besides the held bytes: how many there are, whether a counter was seen (0 or 1), the last one, and whether its repeat was seen (0 or 1). How many bytes are held is told by two bytes, so that an area's record has eight and none between them that says nothing: the compiler copies it as one.
-#[derive(Drop)]
+#[derive(Clone, Copy)]
 pub struct Marks {
     pub held_low: u8,
     pub held_high: u8,
@@ -35,7 +37,7 @@ pub struct Marks {
 }
 
 // What a packet did: the area's marks after it, the finished sections and their bytes, how many sections were begun, jump, repeat, and how many were given up.
-#[derive(Drop)]
+#[derive(Clone, Copy)]
 pub struct Gathered {
     pub marks: Marks,
     pub sections: usize,
@@ -46,7 +48,7 @@ pub struct Gathered {
     pub given_up: u8,
 }
 
-#[derive(Drop)]
+#[derive(Clone, Copy)]
 pub enum Gathering {
     Done(Gathered),
     Refused(u8),

@@ -9,7 +9,7 @@ use crate::kind::{Kind, kind_at, kind_of};
 use section::length_of;
 
 // The sizes of what some bytes give, and how many sections they begin.
-#[derive(Drop)]
+#[derive(Clone, Copy)]
 pub struct Sizes {
     pub sections: usize,
     pub bytes: usize,

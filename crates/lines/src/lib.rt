@@ -1,4 +1,6 @@
 // The lines of a packet: jump, repeat, cut and a line for each section, or the refusal.
+#![tactic(auto)]
+
 ghost use Rattle.std.specs.Prelude.{◌≡◌, [], ◌∷◌};
 ghost use Rattle.packet_call.specs.Packet.{told_report, pid_of};
 ghost use Rattle.text.specs.Text.{up_to, with_bytes};
@@ -9,7 +11,7 @@ use driver::{Handling, Report};
 use octets::{byte_at, further, number_of_three};
 
 // What stands in a column: a number, or the dash for none.
-#[derive(Drop)]
+#[derive(Clone, Copy)]
 enum Cell {
     Number(u64),
     Dash,

@@ -1,4 +1,6 @@
 // Lists what the packets of standard input bring to a filter on PID 0.
+#![tactic(auto)]
+
 ghost use Rattle.std.specs.Prelude.{◌≤◌, ◌<◌, ◌≡◌, length};
 ghost use Rattle.ground.specs.House.{packet_bytes};
 ghost use Rattle.pieces.specs.Piece.{beginning, told_piece};

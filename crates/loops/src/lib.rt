@@ -1,4 +1,6 @@
 // The loops of a program map table: the program's descriptors, and the entries, each followed by its own. One walk judges them and finds an item.
+#![tactic(auto)]
+
 mod walkers;
 
 ghost use Rattle.std.specs.Prelude.{◌≡◌, ◌++◌, ◌-◌, ◌≤◌, length};
@@ -20,7 +22,7 @@ const LOOPS: usize = 202;
 pub type Places = [u16; LOOPS];
 
 // What walking over a section found: how many entries there are; of the loop asked for, how many descriptors it has and the place of the item asked for.
-#[derive(Drop)]
+#[derive(Clone, Copy)]
 pub enum Walked {
     Whole {
         entries: usize,
@@ -31,7 +33,7 @@ pub enum Walked {
 }
 
 // What walking over a section found, and where each entry stands; after a refusal no place is noted.
-#[derive(Drop)]
+#[derive(Clone, Copy)]
 pub struct Surveyed {
     pub walked: Walked,
     pub places: Places,

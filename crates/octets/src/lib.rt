@@ -1,4 +1,6 @@
 // Bytes: numbers of several, most significant byte first, and a byte that may be missing.
+#![tactic(auto)]
+
 ghost use Rattle.octets.specs.Promises.{ReadsTwo, ReadsThree, ReadsFive, ReadsSix, ReadsByte, GivesLesser, GoesFurther};
 
 // The 16 bits of two bytes.

@@ -1,4 +1,6 @@
 // Open: a filter with its choice takes the lowest free place, and its PID's area or the lowest free one.
+#![tactic(auto)]
+
 ghost use Rattle.std.specs.Prelude.{◌≡◌, ◌<◌, get_or};
 ghost use Rattle.state.specs.State.{free_area};
 ghost use Rattle.state.specs.Choice.{code_of};
@@ -12,13 +14,13 @@ use state::{
     free_area, free_place,
 };
 
-#[derive(Drop)]
+#[derive(Clone, Copy)]
 pub enum Opening {
     Open { number: u16, place: u8 },
     Refused(u8),
 }
 
-#[derive(Drop)]
+#[derive(Clone, Copy)]
 pub struct Opened {
     pub state: State,
     pub answer: Opening,

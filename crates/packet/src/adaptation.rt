@@ -12,35 +12,35 @@ use clock::reference::Reference;
 use octets::byte_at;
 
 // The field's length: absent where the control says that there is no field.
-#[derive(Drop)]
+#[derive(Clone, Copy)]
 pub enum Length {
     There(u8),
     Absent,
 }
 
 // A PCR or an OPCR.
-#[derive(Drop)]
+#[derive(Clone, Copy)]
 pub enum Clock {
     There(Reference),
     Absent,
 }
 
 // The splice countdown.
-#[derive(Drop)]
+#[derive(Clone, Copy)]
 pub enum Countdown {
     There(i8),
     Absent,
 }
 
 // Private data or the extension, after its length byte: where it begins in the packet, and its size.
-#[derive(Drop)]
+#[derive(Clone, Copy)]
 pub enum Part {
     There { start: usize, size: u8 },
     Absent,
 }
 
 // What the field says. Where there is no flags byte no indicator is set.
-#[derive(Drop)]
+#[derive(Clone, Copy)]
 pub struct Adaptation {
     pub length: Length,
     pub discontinuity: bool,
@@ -56,14 +56,14 @@ pub struct Adaptation {
     pub splice: Splice,
 }
 
-#[derive(Drop)]
+#[derive(Clone, Copy)]
 pub(crate) enum Fields {
     Value(Adaptation),
     Refused(u8),
 }
 
 // A clock reference that may be missing, or its refusal.
-#[derive(Drop)]
+#[derive(Clone, Copy)]
 enum Clocked {
     Value(Clock),
     Refused(u8),
@@ -178,7 +178,7 @@ fn bare(size: Length) -> Adaptation
 }
 
 // Private data and extension, and where the flagged fields end.
-#[derive(Drop)]
+#[derive(Clone, Copy)]
 struct Parts {
     own: Part,
     extension: Part,

@@ -10,34 +10,34 @@ use clock::stamp::Stamp;
 use octets::{byte_at, number_of_three, number_of_two};
 
 // The legal time window.
-#[derive(Drop)]
+#[derive(Clone, Copy)]
 pub enum Window {
     There { valid: bool, offset: u16 },
     Absent,
 }
 
 // The piecewise rate.
-#[derive(Drop)]
+#[derive(Clone, Copy)]
 pub enum Rate {
     There(u32),
     Absent,
 }
 
 // The seamless splice: its type, and the decoding stamp of the next access unit.
-#[derive(Drop)]
+#[derive(Clone, Copy)]
 pub enum Splice {
     There { splice_type: u8, stamp: Stamp },
     Absent,
 }
 
 // A splice that may be missing, or its refusal.
-#[derive(Drop)]
+#[derive(Clone, Copy)]
 enum Spliced {
     Value(Splice),
     Refused(u8),
 }
 
-#[derive(Drop)]
+#[derive(Clone, Copy)]
 pub(crate) enum Reading {
     Value {
         window: Window,

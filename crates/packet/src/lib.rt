@@ -1,4 +1,6 @@
 // Transport packets of 188 bytes: the header, the adaptation field, and the part that holds the payload.
+#![tactic(auto)]
+
 ghost use Rattle.std.specs.Prelude.{◌≡◌};
 ghost use Rattle.ground.specs.Lent.{lent};
 ghost use Rattle.packet.specs.Adaptation.{told_field};
@@ -16,7 +18,7 @@ pub mod extension;
 pub const PACKET_BYTES: usize = 188;
 
 // What a packet says, one field for each thing read.
-#[derive(Drop)]
+#[derive(Clone, Copy)]
 pub struct Packet {
     pub unit_start: bool,
     pub priority: bool,
@@ -27,7 +29,7 @@ pub struct Packet {
     pub field: Adaptation,
 }
 
-#[derive(Drop)]
+#[derive(Clone, Copy)]
 pub enum Reading {
     Value(Packet),
     Refused(u8),

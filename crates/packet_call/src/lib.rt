@@ -1,4 +1,6 @@
 // The packet call: the tests in document 01's order, the payload gathered into its PID's area, and for each finished section the set of places it is for.
+#![tactic(auto)]
+
 ghost use Rattle.std.specs.Prelude.{◌≡◌, false, ◌≤◌, ◌<◌, length, get_or};
 ghost use Rattle.ground.specs.Answer.{given};
 ghost use Rattle.ground.specs.Write.{put};
@@ -21,7 +23,7 @@ use state::{AREAS, Area, Filter, PLACES, STORE_BYTES, State, area_of, places_for
 pub const LEAST_LIST: usize = 61;
 
 // What a wanted packet brought: how many sections and their bytes, how many sections were begun, jump, repeat, and how many sections were given up.
-#[derive(Drop)]
+#[derive(Clone, Copy)]
 pub struct Report {
     pub sections: usize,
     pub bytes: usize,
@@ -31,14 +33,14 @@ pub struct Report {
     pub given_up: u8,
 }
 
-#[derive(Drop)]
+#[derive(Clone, Copy)]
 pub enum Handling {
     Wanted(Report),
     NotWanted,
     Refused(u8),
 }
 
-#[derive(Drop)]
+#[derive(Clone, Copy)]
 pub struct Handled {
     pub state: State,
     pub answer: Handling,

@@ -1,4 +1,6 @@
 // The program association table: the header and the entries of a lent section, or the refusal's number.
+#![tactic(auto)]
+
 ghost use Rattle.std.specs.Prelude.{◌≡◌, ◌≤◌, length};
 ghost use Rattle.psi.specs.Answers.{told_judged};
 ghost use Rattle.psi.specs.Refusals.{verdict_of};
@@ -18,19 +20,19 @@ use psi::{Head, Judged, head_of};
 pub const MOST_PROGRAMS: usize = 253;
 
 // An entry: a program and its PID.
-#[derive(Drop)]
+#[derive(Clone, Copy)]
 pub struct Program {
     pub number: u16,
     pub pid: Pid,
 }
 
-#[derive(Drop)]
+#[derive(Clone, Copy)]
 pub enum PatHeader {
     Header { head: Head, entries: usize },
     Refused(u8),
 }
 
-#[derive(Drop)]
+#[derive(Clone, Copy)]
 pub enum PatEntry {
     Entry(Program),
     Refused(u8),

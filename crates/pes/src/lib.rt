@@ -1,4 +1,6 @@
 // PES headers: what stands before the data of a PES packet.
+#![tactic(auto)]
+
 ghost use Rattle.std.specs.Prelude.{◌≡◌, ◌≤◌, get_or};
 ghost use Rattle.ground.specs.Number.{number_at};
 ghost use Rattle.pes.specs.Header.{told_reading, fields_size, passes_length};
@@ -12,7 +14,7 @@ pub mod stamps;
 mod stream;
 
 // What the header of an id with an optional header says: both lengths, the stamps, and which other fields are flagged.
-#[derive(Drop)]
+#[derive(Clone, Copy)]
 pub struct Header {
     pub stream_id: u8,
     pub packet_length: u16,
@@ -27,7 +29,7 @@ pub struct Header {
 }
 
 // An id without optional header has nothing but its packet length.
-#[derive(Drop)]
+#[derive(Clone, Copy)]
 pub enum Reading {
     Value(Header),
     Bare { stream_id: u8, packet_length: u16 },

@@ -6,14 +6,14 @@ ghost use Rattle.pes.specs.Steps.{told_stamped, read_stamps};
 use clock::stamp;
 use clock::stamp::Stamp;
 
-#[derive(Drop)]
+#[derive(Clone, Copy)]
 pub enum Stamps {
     Absent,
     Pts(Stamp),
     Both { pts: Stamp, dts: Stamp },
 }
 
-#[derive(Drop)]
+#[derive(Clone, Copy)]
 pub(crate) enum Stamped {
     Value(Stamps),
     Refused(u8),

@@ -1,12 +1,14 @@
 // PIDs: the 13 bits that say whose packet it is.
+#![tactic(auto)]
+
 ghost use Rattle.std.specs.Prelude.{◌≡◌, [], ◌∷◌};
 ghost use Rattle.pid.specs.Promises.{MakesPid};
 
 // A number above 0x1FFF can be written down as a PID; no packet has it.
-#[derive(Drop)]
+#[derive(Clone, Copy)]
 pub struct Pid(pub u16);
 
-#[derive(Drop)]
+#[derive(Clone, Copy)]
 pub enum Making {
     Value(Pid),
     Refused(u8),

@@ -1,4 +1,6 @@
 // The listing's input, piece by piece: each whole packet that was read is called and its lines are written, and what is left is kept.
+#![tactic(auto)]
+
 mod packets;
 mod reads;
 

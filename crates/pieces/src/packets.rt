@@ -11,7 +11,7 @@ use driver::State;
 use packet::PACKET_BYTES;
 
 // What goes on from packet to packet: the state, the next packet's index, and where the text ends.
-#[derive(Drop)]
+#[derive(Clone, Copy)]
 pub struct Progress {
     pub state: State,
     pub index: u64,

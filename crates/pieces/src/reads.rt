@@ -11,7 +11,7 @@ use packet::PACKET_BYTES;
 use pid::Pid;
 
 // Between two reads: how many bytes of a packet are at the piece's start already, and whether to read on.
-#[derive(Drop)]
+#[derive(Clone, Copy)]
 pub struct Step {
     pub progress: Progress,
     pub rest: usize,
@@ -19,7 +19,7 @@ pub struct Step {
 }
 
 // What a read brought: so many bytes, the end of the input, or an error.
-#[derive(Drop)]
+#[derive(Clone, Copy)]
 pub enum Brought {
     Bytes(usize),
     End,

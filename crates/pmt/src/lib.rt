@@ -1,4 +1,6 @@
 // The program map table: the header, the entries and the descriptors of a lent section, or the refusal's number.
+#![tactic(auto)]
+
 ghost use Rattle.std.specs.Prelude.{◌≡◌, ◌+◌, ◌≤◌, length};
 ghost use Rattle.ground.specs.Answer.{given};
 ghost use Rattle.ground.specs.Lent.{lent, part};
@@ -31,7 +33,7 @@ use psi::{Head, head_of};
 pub const MOST_STREAMS: usize = 201;
 
 // An entry: an elementary stream's type, its PID and how many descriptors it has.
-#[derive(Drop)]
+#[derive(Clone, Copy)]
 pub struct Stream {
     pub stream_type: u8,
     pub pid: Pid,
@@ -39,14 +41,14 @@ pub struct Stream {
 }
 
 // A descriptor's tag, and where in the section its bytes start and how many there are.
-#[derive(Drop)]
+#[derive(Clone, Copy)]
 pub struct Place {
     pub tag: u8,
     pub start: usize,
     pub size: usize,
 }
 
-#[derive(Drop)]
+#[derive(Clone, Copy)]
 pub enum PmtHeader {
     Header {
         head: Head,
@@ -58,7 +60,7 @@ pub enum PmtHeader {
 }
 
 // All of a PMT but its lists: the program's own descriptors are the `size` bytes from the place `start` on.
-#[derive(Drop)]
+#[derive(Clone, Copy)]
 pub enum PmtListed {
     Listed {
         head: Head,
@@ -70,13 +72,13 @@ pub enum PmtListed {
     Refused(u8),
 }
 
-#[derive(Drop)]
+#[derive(Clone, Copy)]
 pub enum PmtEntry {
     Entry(Stream),
     Refused(u8),
 }
 
-#[derive(Drop)]
+#[derive(Clone, Copy)]
 pub enum PmtDescriptor {
     Descriptor(Place),
     Refused(u8),

@@ -1,11 +1,13 @@
 // Sections of program specific information: what the first eight bytes of a section say, and the refusals that a PAT and a PMT share.
+#![tactic(auto)]
+
 ghost use Rattle.psi.specs.Promises.{ReadsHead, Judges};
 
 use octets::number_of_two;
 use section::{LONGEST_LENGTH, length_of};
 
 // Bytes 3 to 7 of a section.
-#[derive(Drop)]
+#[derive(Clone, Copy)]
 pub struct Head {
     pub id: u16,
     pub version: u8,
@@ -15,7 +17,7 @@ pub struct Head {
 }
 
 // Whether a section is refused.
-#[derive(Drop)]
+#[derive(Clone, Copy)]
 pub enum Judged {
     Fine,
     Refused(u8),

@@ -1,4 +1,6 @@
 // The transport rate between two clock references, in bytes a second, as a double; and the record of the lowest, the latest and the highest.
+#![tactic(auto)]
+
 ghost use Rattle.std.specs.Prelude.{◌≡◌, ◌≤◌, ◌<◌, ◌^◌};
 ghost use Rattle.rates.specs.Rate.{byte_rate, is_ordered, is_unordered, lower, higher, with_rate, told_rates};
 ghost use Rattle.rates.specs.Steps.{rated_over};
@@ -10,7 +12,7 @@ use clock::reference::{Ahead, Reference};
 pub mod laws;
 
 // Rates in bytes a second.
-#[derive(Drop)]
+#[derive(Clone, Copy)]
 pub struct Rates {
     pub lowest: f64,
     pub latest: f64,
@@ -18,13 +20,13 @@ pub struct Rates {
 }
 
 // What is known before a rate: nothing yet, or the record that the rate before it gave.
-#[derive(Drop)]
+#[derive(Clone, Copy)]
 pub enum Known {
     Nothing,
     Record(Rates),
 }
 
-#[derive(Drop)]
+#[derive(Clone, Copy)]
 pub enum Rated {
     Record(Rates),
     Refused(u8),

@@ -1,4 +1,6 @@
 // The third demand: what any run of calls hands to whom. The definitions are in specs/, the proof in proofs/.
+#![tactic(auto)]
+
 pub mod loss;
 
 ghost use Rattle.ground.specs.Outcome.{Stated};

@@ -1,4 +1,6 @@
 // Sections: the table_id that one begins with, and how long it says that it is.
+#![tactic(auto)]
+
 ghost use Rattle.std.specs.Prelude.{◌≡◌, get_or, drop};
 ghost use Rattle.section.specs.Promises.{SaysLength, SaysTable, SaysSize};
 

@@ -1,4 +1,6 @@
 // Whether a state is sound, each clause of "Sound means": one pass over the filter places, which counts those on each area, one over their choices, and one over the areas, which holds their users to what was counted.
+#![tactic(auto)]
+
 ghost use Rattle.std.specs.Prelude.{◌≡◌, true, ◌&&◌, map, ℕ, ◌≤◌, ◌<◌, drop, get_or, replicate};
 ghost use Rattle.ground.specs.Walk.{all, apart};
 ghost use Rattle.state.specs.State.{is_open};

@@ -1,4 +1,6 @@
 // The ★ cases of document 01: one list in specs/, one statement, proved in proofs/.
+#![tactic(auto)]
+
 ghost use Rattle.ground.specs.Outcome.{Stated};
 ghost use Rattle.stars.specs.Stars.{EveryCase};
 

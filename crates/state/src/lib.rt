@@ -1,4 +1,6 @@
 // What the driver's state holds, a fresh one, the lowest area or place that passes a test, or the number of them where none does, and the set of places that a section is for.
+#![tactic(auto)]
+
 ghost use Rattle.std.specs.Prelude.{◌≡◌, cond};
 ghost use Rattle.ground.specs.Set.{set_of};
 ghost use Rattle.state.specs.State.{is_free};
@@ -24,7 +26,7 @@ pub const LAST_NUMBER: u32 = 65535;
 pub const LAST_FILTER_PID: u16 = 0x1FFE;
 
 // An area, used where it has users: its PID, how many filters stand on it, and what the rule of gathering remembers beside the held bytes.
-#[derive(Drop)]
+#[derive(Clone, Copy)]
 pub struct Area {
     pub pid: Pid,
     pub users: u8,
@@ -35,14 +37,14 @@ pub struct Area {
 pub const LAST_CHOICE: u16 = 255;
 
 // What a filter lets through: every section, or those of one table_id.
-#[derive(Drop)]
+#[derive(Clone, Copy)]
 pub enum Choice {
     All,
     One(u8),
 }
 
 // A filter place, open where it has a number: the number, and the area that the filter stands on.
-#[derive(Drop)]
+#[derive(Clone, Copy)]
 pub struct Filter {
     pub number: u16,
     pub area: u8,
@@ -50,7 +52,7 @@ pub struct Filter {
 
 // The driver's state: 8 areas, 32 filter places, the choice of each, and the next number to give.
 // A choice is a number, 0 for all and 1 + table_id for one, so that any bytes are a state; the choices stand beside the filters, so that a filter keeps its four bytes and the compiler copies either list without a call.
-#[derive(Drop)]
+#[derive(Clone, Copy)]
 pub struct State {
     pub areas: [Area; AREAS],
     pub filters: [Filter; PLACES],

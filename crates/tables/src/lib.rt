@@ -1,4 +1,6 @@
 // PAT and PMT sections (document 01, Tables): headers, entries and descriptors of a lent section, or the refusal's number. The face of the crates that read them.
+#![tactic(auto)]
+
 pub use pat::{MOST_PROGRAMS, PatEntry, PatHeader, Program, pat_entries, pat_entry, pat_header};
 pub use pmt::{
     MOST_STREAMS, Place, PmtDescriptor, PmtEntry, PmtHeader, PmtListed, Stream, entry_descriptor,

@@ -1,4 +1,6 @@
 // Text that a program prints, written piece by piece behind what is already there.
+#![tactic(auto)]
+
 ghost use Rattle.ground.specs.Lent.{lent};
 ghost use Rattle.text.specs.Text.{up_to};
 ghost use Rattle.text.specs.Promises.{WritesByte, WritesWord, WritesDecimal, LendsFirst};
