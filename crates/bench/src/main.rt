@@ -10,7 +10,8 @@ mod whole;
 
 ghost use Rattle.std.specs.Prelude.{◌≡◌, length};
 
-use libc::{STDERR_FILENO, STDIN_FILENO, STDOUT_FILENO};
+use std::io;
+use std::io::{Read, Write};
 
 // A scenario: its five letters and a line end.
 type Letters = [u8; 6];
@@ -88,24 +89,20 @@ fn tell(l: Letters, text: &mut [u8]) -> usize {
 }
 
 // Runs a scenario, and writes its line.
-fn run(l: Letters) {
+fn run(rt: HostRuntime, l: Letters) -> io::Result<()> {
     let mut text = new_text();
     let end = tell(l, &mut text);
-    let is_written = io::write_all(STDOUT_FILENO, text::first(&text, end));
-    if !is_written {
-        os::fail(b"standard output");
-    }
+    rt.stdout().write_all(text::first(&text, end))
 }
 
-fn main() {
+fn main(rt: HostRuntime) -> io::Result<()> {
     let mut letters = no_letters();
-    io::read_full(STDIN_FILENO, &mut letters);
+    // five letters without a line end are a scenario too
+    let _ = rt.stdin().read_exact(&mut letters);
     if is_scenario(letters) {
-        run(letters);
-    } else {
-        io::write_all(
-            STDERR_FILENO,
-            b"usage: bench, and five letters on standard input: one of p c a b m n, of 0 1 2, of 1 3, of n a w, and a digit\n",
-        );
+        return run(rt, letters);
     }
+    rt.stderr().write_all(
+        b"usage: bench, and five letters on standard input: one of p c a b m n, of 0 1 2, of 1 3, of n a w, and a digit\n",
+    )
 }

@@ -1,6 +1,8 @@
 // Reads a script of calls and writes each outcome whole: docs/EXERCISE.md has the format.
 #![tactic(auto)]
 
+ghost use Rattle.std.specs.Prelude.{◌≡◌, length};
+
 mod buffer_calls;
 mod buffers;
 mod line;
@@ -14,7 +16,8 @@ mod table_calls;
 use crate::buffers::{Bytes, List, Output, Row, Store, Text};
 use crate::line::Line;
 use driver::State;
-use libc::{STDIN_FILENO, STDOUT_FILENO};
+use std::io;
+use std::io::{Read, Write};
 
 // What goes on from line to line: the state, how many records the row has, the line that has begun, where the piece goes on, where the text ends, and whether to go on.
 #[derive(Clone, Copy)]
@@ -58,13 +61,27 @@ fn take_line(line: Line, piece: &[u8], from: usize, bytes: &mut Bytes) -> Taken 
     }
 }
 
+// 65,536 zeros.
+fn large_buffer() -> [u8; 65536]
+    ensures { 65536 ≡ length result }
+{
+    [0; 65536]
+}
+
+// Says on standard error what failed, and why.
+fn fail(rt: HostRuntime, what: &str, error: io::Error) {
+    let _ = eprintln!(rt; "{what}: {error}");
+}
+
 // Writes the text.
-fn write(text: &[u8], size: usize) -> bool {
-    let is_written = io::write_all(STDOUT_FILENO, text::first(text, size));
-    if !is_written {
-        os::fail(b"standard output");
+fn write(rt: HostRuntime, text: &[u8], size: usize) -> bool {
+    match rt.stdout().write_all(text::first(text, size)) {
+        Ok(()) => true,
+        Err(error) => {
+            fail(rt, "standard output", error);
+            false
+        }
     }
-    is_written
 }
 
 // The outcome of a line.
@@ -94,7 +111,7 @@ fn answered(
 }
 
 // A line end behind an outcome, and a new line. The text is written once it is long: no outcome has 20,000 bytes.
-fn ended(turn: Turn, text: &mut Text) -> Turn {
+fn ended(rt: HostRuntime, turn: Turn, text: &mut Text) -> Turn {
     let end = text::byte(text, turn.at, b'\n');
     let line = Line::new();
     let mut next = turn;
@@ -102,13 +119,14 @@ fn ended(turn: Turn, text: &mut Text) -> Turn {
     next.at = end;
     if 40_000 <= end {
         next.at = 0;
-        next.is_on = write(text, end);
+        next.is_on = write(rt, text, end);
     }
     next
 }
 
 // Takes a line of the piece, and answers it where it ends there.
 fn answer_line(
+    rt: HostRuntime,
     turn: Turn,
     piece: &[u8],
     bytes: &mut Bytes,
@@ -128,7 +146,7 @@ fn answer_line(
         return next;
     }
     let told = answered(next, bytes, store, out, list, row, text);
-    ended(told, text)
+    ended(rt, told, text)
 }
 
 // Whether there is more of the piece to take.
@@ -138,6 +156,7 @@ fn is_left(turn: Turn, piece: &[u8]) -> bool {
 
 // Answers each line that ends in a piece, and begins the one that does not. There are no more lines than bytes.
 fn answer_piece(
+    rt: HostRuntime,
     turn: Turn,
     piece: &[u8],
     bytes: &mut Bytes,
@@ -150,14 +169,15 @@ fn answer_piece(
     let mut now = turn;
     let mut left = piece.len();
     while 0 < left && is_left(now, piece) {
-        now = answer_line(now, piece, bytes, store, out, list, row, text);
+        now = answer_line(rt, now, piece, bytes, store, out, list, row, text);
         left -= 1;
     }
     now
 }
 
-// Reads a piece and answers its lines; at the script's end also the line that no line end followed.
-fn answer_some(
+// Answers the line that no line end followed, if there is one.
+fn answer_last(
+    rt: HostRuntime,
     turn: Turn,
     bytes: &mut Bytes,
     store: &mut Store,
@@ -166,29 +186,54 @@ fn answer_some(
     row: &mut Row,
     text: &mut Text,
 ) -> Turn {
-    let mut piece = io::large_buffer();
-    let got = libc::read(STDIN_FILENO, &mut piece);
-    if 0 < got {
-        let n = io::count(got, &piece);
-        let mut turn = turn;
-        turn.next = 0;
-        return answer_piece(turn, &piece[..n], bytes, store, out, list, row, text);
-    }
-    if got < 0 {
-        os::fail(b"standard input");
-    }
     let line = turn.line;
-    if (got < 0) | line.is_empty() {
-        return stopped(turn, text);
+    if line.is_empty() {
+        return stopped(rt, turn, text);
     }
     let told = answered(turn, bytes, store, out, list, row, text);
-    let last = ended(told, text);
-    stopped(last, text)
+    let last = ended(rt, told, text);
+    stopped(rt, last, text)
+}
+
+// Reads a piece and answers its lines; at the script's end also the line that no line end followed.
+fn answer_some(
+    rt: HostRuntime,
+    turn: Turn,
+    bytes: &mut Bytes,
+    store: &mut Store,
+    out: &mut Output,
+    list: &mut List,
+    row: &mut Row,
+    text: &mut Text,
+) -> Turn {
+    let mut piece = large_buffer();
+    match rt.stdin().read(&mut piece) {
+        Ok(0) => answer_last(rt, turn, bytes, store, out, list, row, text),
+        Ok(count) => {
+            let mut turn = turn;
+            turn.next = 0;
+            answer_piece(
+                rt,
+                turn,
+                &piece[..count],
+                bytes,
+                store,
+                out,
+                list,
+                row,
+                text,
+            )
+        }
+        Err(error) => {
+            fail(rt, "standard input", error);
+            stopped(rt, turn, text)
+        }
+    }
 }
 
 // The end: what is left of the text is written.
-fn stopped(turn: Turn, text: &[u8]) -> Turn {
-    write(text, turn.at);
+fn stopped(rt: HostRuntime, turn: Turn, text: &[u8]) -> Turn {
+    write(rt, text, turn.at);
     let mut last = turn;
     last.is_on = false;
     last
@@ -196,6 +241,7 @@ fn stopped(turn: Turn, text: &[u8]) -> Turn {
 
 // A proved loop has to end, and nothing says that a script does, so it counts down from a number that no run uses up.
 fn answer_all(
+    rt: HostRuntime,
     bytes: &mut Bytes,
     store: &mut Store,
     out: &mut Output,
@@ -213,19 +259,19 @@ fn answer_all(
         is_on: true,
     };
     while 0 < turns && turn.is_on {
-        turn = answer_some(turn, bytes, store, out, list, row, text);
+        turn = answer_some(rt, turn, bytes, store, out, list, row, text);
         turns -= 1;
     }
 }
 
-fn main() {
+fn main(rt: HostRuntime) {
     let mut bytes: Bytes = [0; 8192];
     let mut store: Store = [0; 40960];
     let mut out: Output = [0; 8192];
     let mut list: List = [0; 128];
     let mut row: Row = [0; 4096];
-    let mut text = io::large_buffer();
+    let mut text = large_buffer();
     answer_all(
-        &mut bytes, &mut store, &mut out, &mut list, &mut row, &mut text,
+        rt, &mut bytes, &mut store, &mut out, &mut list, &mut row, &mut text,
     );
 }

@@ -7,36 +7,44 @@ ghost use Rattle.pieces.specs.Piece.{beginning, told_piece};
 ghost use Rattle.pieces.specs.Turns.{Fits, between_of, turn_in};
 ghost use Rattle.listing.specs.Listing.{ReadsBehind, TakesTurn, ListsInput};
 
-use libc::{STDIN_FILENO, STDOUT_FILENO};
 use pieces::{Brought, Step};
+use std::io;
+use std::io::{Read, Write};
+
+// Says on standard error what failed, and why.
+fn fail(rt: HostRuntime, what: &str, error: io::Error) {
+    let _ = eprintln!(rt; "{what}: {error}");
+}
 
 // Writes the text.
-fn write(text: &[u8], size: usize) -> bool {
-    let is_written = io::write_all(STDOUT_FILENO, text::first(text, size));
-    if !is_written {
-        os::fail(b"standard output");
+fn write(rt: HostRuntime, text: &[u8], size: usize) -> bool {
+    match rt.stdout().write_all(text::first(text, size)) {
+        Ok(()) => true,
+        Err(error) => {
+            fail(rt, "standard output", error);
+            false
+        }
     }
-    is_written
 }
 
 // Reads on behind the bytes that are there.
-fn read_on(piece: &mut [u8], rest: usize) -> Brought
+fn read_on(rt: HostRuntime, piece: &mut [u8], rest: usize) -> Brought
     requires { rest ≤ length piece.old }
     ensures { ReadsBehind rest piece.old result piece.new }
 {
-    let got = libc::read(STDIN_FILENO, &mut piece[rest..]);
-    if got < 0 {
-        os::fail(b"standard input");
-        return Brought::Failure;
+    match rt.stdin().read(&mut piece[rest..]) {
+        Ok(0) => Brought::End,
+        Ok(count) => Brought::Bytes(count),
+        Err(error) => {
+            fail(rt, "standard input", error);
+            Brought::Failure
+        }
     }
-    if got == 0 {
-        return Brought::End;
-    }
-    Brought::Bytes(io::count(got, &piece[rest..]))
 }
 
 // A read, what it brings listed, and the lines written.
 fn read_and_list(
+    rt: HostRuntime,
     step: Step,
     piece: &mut [u8],
     store: &mut [u8],
@@ -50,9 +58,9 @@ fn read_and_list(
     ensures takes_turn { TakesTurn (between_of step piece.old store.old out.old sets.old)
         (turn_in (told_piece result piece.new store.new out.new sets.new text.new)) }
 {
-    let brought = read_on(piece, step.rest);
+    let brought = read_on(rt, piece, step.rest);
     let mut next = pieces::list_read(step, brought, piece, store, out, sets, text);
-    let is_written = write(text, next.progress.at);
+    let is_written = write(rt, text, next.progress.at);
     next.is_on = next.is_on & is_written;
     next
 }
@@ -60,6 +68,7 @@ fn read_and_list(
 // The whole input listed, from a fresh state with a filter on PID 0.
 // A proved loop has to end, and nothing says that an input does, so it counts down from a number that no run uses up.
 fn list_all(
+    rt: HostRuntime,
     piece: &mut [u8],
     store: &mut [u8],
     out: &mut [u8],
@@ -73,7 +82,7 @@ fn list_all(
     let mut step = pieces::begin();
     let mut turns = u64::MAX;
     while (0 < turns) & step.is_on {
-        step = read_and_list(step, piece, store, out, sets, text);
+        step = read_and_list(rt, step, piece, store, out, sets, text);
         turns -= 1;
     }
     step
@@ -93,14 +102,14 @@ fn new_text() -> [u8; 376832]
     [0; 376832]
 }
 
-fn main() {
+fn main(rt: HostRuntime) {
     let mut piece = new_piece();
     let mut store = [0u8; driver::STORE_BYTES];
     let mut out = [0u8; gather::LEAST_OUTPUT];
     let mut sets = [0u32; driver::LEAST_LIST];
     let mut text = new_text();
     let end = lines::header(&mut text, 0);
-    if write(&text, end) {
-        list_all(&mut piece, &mut store, &mut out, &mut sets, &mut text);
+    if write(rt, &text, end) {
+        list_all(rt, &mut piece, &mut store, &mut out, &mut sets, &mut text);
     }
 }
