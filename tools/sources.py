@@ -66,8 +66,8 @@ class Antt:
     def make(self, name, declaration):
         self.names.setdefault(name, declaration)
         # an operator is written without the marks of its places
-        if "_" in name.strip("«»") and not name.startswith("«"):
-            self.names.setdefault(name.strip("_"), declaration)
+        if "◌" in name:
+            self.names.setdefault(name.strip("◌"), declaration)
 
     def bring(self, m):
         module, names, alias = m["module"], m["names"], m["alias"]
@@ -76,7 +76,7 @@ class Antt:
             return
         for item in names.split(","):
             parts = item.strip().split(" as ")
-            self.brought[parts[-1].strip().strip("_")] = (module, parts[0].strip())
+            self.brought[parts[-1].strip().strip("◌")] = (module, parts[0].strip())
             self.brought[parts[-1].strip()] = (module, parts[0].strip())
 
 
@@ -91,7 +91,7 @@ def declared(path):
 
 def spec_file(module, own=None):
     """The file of a crate's specs/ that a module's name means, or None."""
-    m = re.match(r"Rattle·([a-z_]+)(?:·specs\.specs|\.specs)\.(.+)$", module)
+    m = re.match(r"Rattle\.([a-z_]+)\.specs\.(.+)$", module)
     if not m or m[2].startswith("declared"):
         return None
     path = ROOT / "crates" / m[1] / "specs" / (m[2].replace(".", "/") + ".antt")
@@ -99,7 +99,17 @@ def spec_file(module, own=None):
 
 
 HEAD = re.compile(r"^\s*(?P<vis>pub(?:\([a-z]+\))? )?fn (?P<name>\w+)", re.M)
-CLAUSE = re.compile(r"(requires|ensures) \{(.*?)⌝ \}", re.S)
+CLAUSE = re.compile(r"\b(requires|ensures)(?: \w+)? \{")
+
+
+def clauses(head):
+    """Of each clause of a function's head: its kind, and its text."""
+    for m in CLAUSE.finditer(head):
+        depth, at = 1, m.end()
+        while depth:
+            depth += {"{": 1, "}": -1}.get(head[at], 0)
+            at += 1
+        yield m[1], re.sub(r"\s+", " ", head[m.end() : at - 1]).strip()
 
 
 def functions(crate):
@@ -111,8 +121,8 @@ def functions(crate):
             end = heads[i + 1].start() if i + 1 < len(heads) else len(text)
             head = re.split(r"\n *\{\n", text[m.end():end])[0]
             said = {"requires": [], "ensures": []}
-            for kind, what in CLAUSE.findall(head):
-                said[kind].append(re.sub(r"\s+", " ", re.sub(r"λ \w+\.|⌜", "", what)).strip())
+            for kind, what in clauses(head):
+                said[kind].append(what)
             yield path, m["name"], (m["vis"] or "").strip() == "pub", said["ensures"], said["requires"]
 
 
