@@ -21,7 +21,7 @@ use Rattle.ground.proofs.Perhaps.{presence_lt}
 use Rattle.ground.proofs.Refusal.{accepted}
 use Rattle.ground.proofs.Test.{both_true, and_false}
 use Rattle.clock.specs.Range.{stamp_turn}
-use Rattle.clock.specs.Stamp.{stamp_field, prefix_of, lacks_marker}
+use Rattle.clock.specs.Stamp.{stamp_field, lacks_marker}
 use Rattle.clock.proofs.Field.{marked, stamp_field_lt, stamp_field_marked, stamp_of_field}
 use Rattle.packet.specs.Part.{Span}
 use Rattle.packet.specs.Extension.{LegalWindow, SeamlessSplice, Extended, flagged_size, rate_place, splice_place, window_of, rate_of, splice_of, extended_at, is_wrong_splice, extended_in, is_cramped, has_wrong_splice}

@@ -7,7 +7,6 @@ use Rattle.packet.specs.Payload.{start_after}
 use Rattle.packet.specs.declared.Packet.{Packet}
 use Rattle.packet.specs.declared.Reading.{Reading}
 use Rattle.packet.proofs.Accepted.{accepted}
-use Rattle.ground.proofs.Lent.{lent_part}
 use Rattle.packet.proofs.payload.Goals as goal
 
 -- what the reading tells

@@ -1,10 +1,10 @@
 -- The splice is the lone field in the part from its place on, and a refusal of that is this one's.
 -- Assumes nothing.
-use Rattle.std.proofs.Common.{◌≡◌, ℕ, ◌+◌, ◌-◌, ◌≤◌, List, length, take, drop, ap, sym, ◌∙◌, ◌/◌, ◌%◌, rules, arith}
+use Rattle.std.proofs.Common.{◌≡◌, ℕ, ◌+◌, ◌-◌, ◌≤◌, List, length, take, drop, ap, sym, ◌∙◌, ◌/◌, ◌%◌, rules}
 use borrow.Author.Tests.{eq-eqb}
 use Rattle.clock.specs.declared.stamp.AnyReading.{AnyReading}
 use Rattle.clock.specs.Stamp.{told_any_stamp, read_any_stamp}
-use Rattle.packet.specs.Extension.{splice_place, flagged_size}
+use Rattle.packet.specs.Extension.{splice_place}
 use Rattle.packet.specs.Steps.{read_splice}
 use Rattle.ground.proofs.Judged.{mapped}
 use Rattle.packet.proofs.Splice.{spliced_by, splice_there}
