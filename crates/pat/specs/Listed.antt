@@ -3,7 +3,7 @@ use Rattle.std.specs.Prelude.{List, ◌∷◌, map, ℕ, ltb, length}
 use Rattle.ground.specs.Answer.{Answer, refused, given}
 use Rattle.ground.specs.Refusal.{Row, judge, ◌when◌}
 use Rattle.ground.specs.Write.{put}
-use Rattle.pat.specs.Answers.{PatHeading, Association, told_pat_header}
+use Rattle.pat.specs.Answers.{PatHeading, told_pat_header}
 use Rattle.pat.specs.Pat.{pat_of, pat_refusals, pat_heading_of, association_of}
 use Rattle.pat.specs.declared.PatHeader.{PatHeader}
 
