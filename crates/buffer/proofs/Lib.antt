@@ -1,7 +1,6 @@
 pub mod Busy
 pub mod Agrees
 pub mod Walking
-pub mod Answered
 pub mod Arrivals
 pub mod Along
 pub mod Rising
