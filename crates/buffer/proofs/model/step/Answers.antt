@@ -19,7 +19,7 @@ pub returns-then-pid-j : goal.returns-then-pid-j
 unfolding step_of
 returns-then-pid-j c =
     let a = c.args in
-    yes≢ a.pid a.j.pid _ _ c.if-pid-j.true refl
+    yes≢ a.pid a.j.pid _ _ (λ (e : a.pid ≡ a.j.pid). absurd (omega arith)) refl
 
 pub returns-then-tick-j : goal.returns-then-tick-j
 unfolding step_of
