@@ -16,7 +16,7 @@ use Rattle.ground.specs.Refusal.{judge, ◌when◌}
 use Rattle.ground.proofs.Answer.{given_apart, refused_same}
 use Rattle.ground.proofs.Judged.{given_by}
 use Rattle.psi.specs.Section.{byte_at}
-use Rattle.psi.specs.Loop.{Loop, filled, unfilled, onto}
+use Rattle.psi.specs.Loop.{filled, unfilled, onto}
 use Rattle.loops.specs.Loop.{descriptors_of}
 use Rattle.loops.proofs.Loop as loop
 use Rattle.loops.proofs.Unrolls as unrolls
