@@ -11,9 +11,9 @@ use lib.Dec.{eqb, leb}
 use lib.ListN.{length, get_or, drop, length-map, get_or-eq_default, get_or-map}
 use Rattle.ground.specs.Answer.{Answer, refused, given}
 use Rattle.ground.specs.Refusal.{judge, ◌when◌}
-use Rattle.ground.specs.Set.{set_of, is_in}
+use Rattle.ground.specs.Set.{is_in}
 use Rattle.ground.specs.Walk.{all}
-use Rattle.ground.specs.Write.{put, Rest}
+use Rattle.ground.specs.Write.{put}
 use Rattle.ground.proofs.Answer.{given_apart, given_same}
 use Rattle.ground.proofs.Judged.{judge_both}
 use Rattle.ground.proofs.Set.{in_set}

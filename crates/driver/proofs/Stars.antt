@@ -32,9 +32,9 @@ none_free pid areas used none =
 own_found : (pid : ℕ) (areas : List Area) → has_area pid areas ≡ true → leb (length areas) (area_for pid areas) ≡ false
 own_found pid areas held = rw held (lt-leb (length areas) (area_of pid areas) (ltb-true (area_of pid areas) (length areas) held))
 
-eight_taken : Right eight_taken
+eight_taken_lem : Right eight_taken
 unfolding open_of
-eight_taken s pid choice fine used low chosen more place = (
+eight_taken_lem s pid choice fine used low chosen more place = (
   λ none. rw (fine, le-ltb 0x1FFE pid low, chosen, le-ltb 65535 s.next more, lt-leb (length s.filters) (free_place_of s.filters) place, none_free pid s.areas used none),
   λ held. rw (fine, le-ltb 0x1FFE pid low, chosen, le-ltb 65535 s.next more, lt-leb (length s.filters) (free_place_of s.filters) place, own_found pid s.areas held),
 )
@@ -47,4 +47,4 @@ last_byte bytes store out sets e l o m =
 
 pub stars : Every Right cases
 unfolding sound open_of packet_of
-stars = (refl, (refl, (eight_taken, (λ store out sets l o m. rw (sizes store out sets l o m), (λ store out sets l o m. rw (sizes store out sets l o m), (last_byte, tt))))))
+stars = (refl, (refl, (eight_taken_lem, (λ store out sets l o m. rw (sizes store out sets l o m), (λ store out sets l o m. rw (sizes store out sets l o m), (last_byte, tt))))))

@@ -4,7 +4,7 @@ use Rattle.ground.specs.Set.{set_of, is_in}
 use Rattle.ground.specs.Write.{Rest}
 use Rattle.section.specs.Section.{table_of}
 use Rattle.state.specs.State.{stands_on}
-use Rattle.state.specs.Choice.{Placed, places_of, free_place, is_for}
+use Rattle.state.specs.Choice.{Placed, free_place, is_for}
 use Rattle.state.specs.declared.State.{State}
 use Rattle.packet_call.specs.Packet.{Said, AfterPacket}
 

@@ -3,13 +3,12 @@
 use mathlib.Core.Path.{refl}
 use Rattle.runs.specs.Run.{ours}
 use Rattle.runs.specs.AsNew.{AsNew}
-use Rattle.runs.proofs.loss.as_new.Statement.{statement}
-use Rattle.runs.proofs.loss.as_new.Tie as tie
 use Rattle.runs.proofs.AsNew.{after_jumps, jumps_as_they_come, after_starts, starts_as_they_come, freshly_taken}
 use Rattle.runs.proofs.Again.{completes, handed_again}
 use Rattle.runs.proofs.Unread.{unread}
 use Rattle.runs.proofs.TooMuch.{given_up_needed, jump_needed}
 use Rattle.runs.proofs.WrongAtJumps.{excluded}
+use Rattle.runs.proofs.loss.as_new.Goals as goal
 
 claims : AsNew ours
 claims =
@@ -25,8 +24,5 @@ claims =
       jump_needed = jump_needed;
     }
 
-returns : tie.Need-returns
+pub returns : goal.returns
 returns c = (refl, record { holds = claims; completes = completes; excluded = excluded })
-
-pub as-new-spec : {M : Type 1} → statement M
-as-new-spec = tie.close (tie.spec returns)

@@ -2,16 +2,12 @@
 -- Assumes nothing.
 use mathlib.Core.Path.{refl}
 use Rattle.runs.specs.Run.{ours}
-use Rattle.runs.proofs.demand_three.Statement.{statement}
-use Rattle.runs.proofs.demand_three.Tie as tie
 use Rattle.runs.proofs.Demand as demand
 use Rattle.runs.proofs.InOrder.{in_order}
 use Rattle.runs.proofs.Wrong.{excluded}
 use Rattle.runs.proofs.Accounts.{accounts}
 use Rattle.runs.proofs.Choices.{all_of_them}
+use Rattle.runs.proofs.demand_three.Goals as goal
 
-returns : tie.Need-returns
+pub returns : goal.returns
 returns c = (refl, record { holds = demand.statement; in_order = in_order ours; excluded = excluded; accounts = accounts; all = all_of_them })
-
-pub demand-three-spec : {M : Type 1} → statement M
-demand-three-spec = tie.close (tie.spec returns)
