@@ -8,7 +8,7 @@ use native.Mathlib.Nat.{le_of_suc-le-suc, add-zero, add-suc}
 use native.Mathlib.Omega.{arith}
 use lib.ListN.{length, drop}
 use Rattle.ground.proofs.Walk.{keep_append}
-use Rattle.gather.specs.Rule.{State, Packet, Outcome, blank, rule}
+use Rattle.gather.specs.Rule.{State, Packet, Outcome, rule}
 use Rattle.gather.proofs.AsNew.{as_new}
 use Rattle.section.specs.Section.{table_of}
 use Rattle.state.specs.Choice.{lets, through}

@@ -1,6 +1,6 @@
 -- An accepted open keeps the ledger: one user more on the PID's area, which is blank where it was free, and a number that none had.
 -- Assumes nothing.
-use mathlib.Core.Path.{◌≡◌, refl, sym, ◌∙◌, ap, ap₂}
+use mathlib.Core.Path.{◌≡◌, refl, sym, ◌∙◌, ap, ap₂, subst}
 use mathlib.Core.Bool.{Bool, true, false, cond, not, ◌&&◌, false≢true}
 use mathlib.Core.List.{List, [], ◌∷◌}
 use Prim.Native.Nat.{ℕ, ◌+◌, ◌≤◌, ◌<◌}
@@ -271,12 +271,16 @@ module _ (w : World) (h : List AcceptedCall) (l : Ledger w h) (pid : ℕ) (choic
           ∙ sym (ap remembered (ap₂ (λ (c d : Bool). cond (c && d) [] (packets pid h)) (eq-eqb pid pid refl) (eq-eqb (opens pid h) (closes pid h) (none v))))
 
       go : Dec (i ≡ a) → state_of (get_or (set s.areas a area) i free_area).marks w.store (area_start i) ≡ remembered (packets (get_or (set s.areas a area) i free_area).pid.0 (opened fresh ∷ h))
-      go (yes e) = rw (e, get_or-set_same s.areas a area free_area o.area) (here (is_used (area_at s a)) refl)
+      go (yes e) =
+          let at : get_or (set s.areas a area) i free_area ≡ area = ap (λ (j : ℕ). get_or (set s.areas a area) j free_area) e ∙ get_or-set_same s.areas a area free_area o.area in
+          subst (λ (x : Area). state_of x.marks w.store (area_start i) ≡ remembered (packets x.pid.0 (opened fresh ∷ h))) (sym at)
+          (subst (λ (j : ℕ). state_of area.marks w.store (area_start j) ≡ remembered (packets area.pid.0 (opened fresh ∷ h))) (sym e) (here (is_used (area_at s a)) refl))
       go (no n) =
           let same = get_or-set_other s.areas a i area free_area n in
           let was : is_used (area_at s i) ≡ true = ap is_used (sym same) ∙ u in
           let inside : i < length s.areas = rw length-set at b in
-          rw same (l.remembers i inside was ∙ ap remembered (sym (not_taken w h l (area_at s i).pid.0 fresh (busy w h l i (area_at s i).pid.0 inside was refl))))
+          subst (λ (x : Area). state_of x.marks w.store (area_start i) ≡ remembered (packets x.pid.0 (opened fresh ∷ h))) (sym same)
+          (l.remembers i inside was ∙ ap remembered (sym (not_taken w h l (area_at s i).pid.0 fresh (busy w h l i (area_at s i).pid.0 inside was refl))))
 
   hands : (f : OpenedFilter) → opening_of f.number (opened fresh ∷ h) ≡ there f → Handed f (opened fresh ∷ h)
   hands f i = go (ℕ_discrete s.next f.number)

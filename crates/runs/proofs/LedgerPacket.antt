@@ -1,6 +1,6 @@
 -- An accepted packet keeps the ledger: its area remembers one packet more, and a filter is handed what the rule completes of it where its place is in the section's set.
 -- Assumes nothing.
-use mathlib.Core.Path.{◌≡◌, refl, sym, ◌∙◌, ap, ap₂}
+use mathlib.Core.Path.{◌≡◌, refl, sym, ◌∙◌, ap, ap₂, subst}
 use mathlib.Core.Bool.{Bool, true, false, cond, ◌&&◌}
 use mathlib.Core.List.{List, [], ◌∷◌, ◌++◌, append-nil}
 use Prim.Native.Nat.{ℕ, ◌+◌, ◌≤◌, ◌<◌}
@@ -120,16 +120,28 @@ module _ (w : World) (h : List AcceptedCall) (l : Ledger w h) (p : List ℕ) (le
     where
       go : Dec (i ≡ own) → state_of (get_or (set s.areas own area) i free_area).marks after.store (area_start i) ≡ remembered (packets (get_or (set s.areas own area) i free_area).pid.0 (packet p lent said written ∷ h))
       go (yes e) =
-          rw (e, get_or-set_same s.areas own area free_area k.area, mine.1, eq-eqb (pid_of p) (pid_of p) refl)
-          (state_again result.next w.store (area_start own) inside ∙ ap (λ (x : Outcome). x.next) outcome_is ∙ sym (remembered_one (packet_from p) (packets (pid_of p) h)))
+          let at : get_or (set s.areas own area) i free_area ≡ area = ap (λ (j : ℕ). get_or (set s.areas own area) j free_area) e ∙ get_or-set_same s.areas own area free_area k.area in
+          let taken : packets area.pid.0 (packet p lent said written ∷ h) ≡ packet_from p ∷ packets (pid_of p) h =
+          ap (λ (q : ℕ). packets q (packet p lent said written ∷ h)) mine.1
+          ∙ ap (λ (b : Bool). cond b (packet_from p ∷ packets (pid_of p) h) (packets (pid_of p) h)) (eq-eqb (pid_of p) (pid_of p) refl) in
+          let own_is : state_of area.marks after.store (area_start own) ≡ remembered (packets area.pid.0 (packet p lent said written ∷ h)) =
+          state_again result.next w.store (area_start own) inside
+          ∙ ap (λ (x : Outcome). x.next) outcome_is
+          ∙ sym (remembered_one (packet_from p) (packets (pid_of p) h))
+          ∙ ap remembered (sym taken) in
+          subst (λ (x : Area). state_of x.marks after.store (area_start i) ≡ remembered (packets x.pid.0 (packet p lent said written ∷ h))) (sym at)
+          (subst (λ (j : ℕ). state_of area.marks after.store (area_start j) ≡ remembered (packets area.pid.0 (packet p lent said written ∷ h))) (sym e) own_is)
       go (no n) =
           let same = get_or-set_other s.areas own i area free_area n in
           let was : is_used (area_at s i) ≡ true = ap is_used (sym same) ∙ u in
           let within : i < length s.areas = rw length-set at b in
           let few = (sound_says (area_at s i).marks (marks_sound (area_at s i) (all_at sound_area s.areas free_area l.clauses.areas i within))).held in
-          rw (same, ne_eqb (pid_of p) (area_at s i).pid.0 (λ e. n (own_only i within was e)))
+          let apart : packets (area_at s i).pid.0 (packet p lent said written ∷ h) ≡ packets (area_at s i).pid.0 h =
+          ap (λ (b : Bool). cond b (packet_from p ∷ packets (area_at s i).pid.0 h) (packets (area_at s i).pid.0 h)) (ne_eqb (pid_of p) (area_at s i).pid.0 (λ e. n (own_only i within was e))) in
+          subst (λ (x : Area). state_of x.marks after.store (area_start i) ≡ remembered (packets x.pid.0 (packet p lent said written ∷ h))) (sym same)
           (ap (λ (held : List ℕ). record { held = held; last = last_of (area_at s i).marks }) (elsewhere i (held_of (area_at s i).marks) few n)
-          ∙ l.remembers i within was)
+          ∙ l.remembers i within was
+          ∙ ap remembered (sym apart))
 
   -- the sections in the output are those that the rule completes
   sections : sections_of said written ≡ result.sections

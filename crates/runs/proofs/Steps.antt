@@ -8,7 +8,6 @@ use native.Mathlib.Omega.{arith}
 use borrow.Author.Tests.{ne_eqb}
 use lib.Dec.{eqb}
 use lib.ListN.{length, get_or, replicate, get_or-replicate}
-use Rattle.ground.specs.Answer.{given}
 use Rattle.ground.specs.Walk.{Every}
 use Rattle.ground.specs.Perhaps.{there, absent}
 use Rattle.gather.specs.Memory.{held_of, contradicts_of}

@@ -3,15 +3,14 @@
 use mathlib.Core.Path.{◌≡◌, sym, ◌∙◌, ap}
 use Prim.Native.Nat.{ℕ, ◌≤◌, ◌<◌}
 use native.Mathlib.Omega.{arith}
-use borrow.Author.Tests.{not-true, not-false}
 use lib.ListN.{length}
 use borrow.Author.Rules.{rules}
 use Rattle.ground.proofs.Walk.{mapped_length}
-use Rattle.packet.specs.Packet.{Contents, told_reading}
+use Rattle.packet.specs.Packet.{Contents}
 use Rattle.state.specs.State.{area_of}
 use Rattle.packet_call.specs.Packet.{pid_of, after_tests}
 use Rattle.packet_call.proofs.PacketRead.{read_same, read_silent}
-use Rattle.packet_call.proofs.Order.{packet_unsound, packet_sizes, packet_refused, packet_read, reading_unwanted, reading_wanted, sizes_right}
+use Rattle.packet_call.proofs.Order.{packet_unsound, packet_sizes, packet_refused, packet_read, reading_unwanted, reading_wanted}
 use Rattle.packet_call.proofs.packet.Goals as goal
 
 pub returns-then-not-is_sound : goal.returns-then-not-is_sound

@@ -1,10 +1,8 @@
 -- Each turn writes the next section's set: after i turns the first i stand written.
 -- Assumes nothing.
 use Prim.Native.Nat.{◌-◌}
-use native.Mathlib.Omega.{arith}
-use borrow.Author.Rules.{rules}
 use Rattle.state.specs.Choice.{placed}
-use Rattle.packet_call.proofs.Sets.{Told, told_none, told_one, told_all}
+use Rattle.packet_call.proofs.Sets.{Told}
 use Rattle.packet_call.proofs.tell_places.Given as goal
 
 abbrev pub invariant-loop-i : goal.invariant-loop-i

@@ -11,7 +11,7 @@ use Rattle.gather.specs.Memory.{state_of}
 use Rattle.state.specs.State.{area_start, free_area}
 use Rattle.packet_call.specs.Packet.{put_back}
 use Rattle.packet_call.proofs.PacketRead.{read_same, start_inside, part_payload, payload_short, counter_few, packet_same}
-use Rattle.packet_call.proofs.Order.{contradicts_told, tests_contradict, tests_scrambled, tests_none_left, tests_passed}
+use Rattle.packet_call.proofs.Order.{contradicts_told, tests_scrambled, tests_none_left, tests_passed}
 use Rattle.packet_call.proofs.wanted.Goals as goal
 
 pub returns-then-packet-ne0 : goal.returns-then-packet-ne0
