@@ -1,12 +1,11 @@
 -- What lies in memory after a read is the turn that the read makes, where the lines have room.
 -- Assumes nothing.
-use Rattle.std.proofs.Common.{◌≡◌, ℕ, ◌+◌, ◌*◌, ◌/◌, ◌%◌, ◌<◌, ◌≤◌, min, Bool, true, false, ltb, List, [], length, take, drop, sym, refl, ap, ◌∙◌, ap₂, arith, length-take-le, ltb-false, ltb-true, le-ltb, lt-ltb}
-use Rattle.text.specs.Text.{up_to, with_bytes}
+use Rattle.std.proofs.Common.{◌≡◌, ℕ, ◌+◌, ◌/◌, ◌<◌, ◌≤◌, min, Bool, true, false, ltb, List, length, take, refl, ap, ◌∙◌, arith, length-take-le}
+use Rattle.text.specs.Text.{up_to}
 use Rattle.text.proofs.Laws.{is_written}
-use Rattle.lines.specs.Lines.{most}
-use Rattle.pieces.specs.Input.{Work, Between, Turn, printed, next_lines, turn_of}
+use Rattle.pieces.specs.Input.{Work, printed, next_lines}
 use Rattle.pieces.specs.Piece.{work_of, more_of, ended_of, piece_of}
-use Rattle.pieces.specs.Turns.{Fits, EndsIn, turn_in, IsTurn}
+use Rattle.pieces.specs.Turns.{Fits, EndsIn, IsTurn}
 use Rattle.pieces.specs.declared.reads.Step.{Step}
 use Rattle.pieces.specs.declared.reads.Brought.{Brought}
 use Rattle.pieces.specs.declared.reads.Brought.TheVariants.{Bytes, End, Failure}

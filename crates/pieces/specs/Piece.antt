@@ -1,5 +1,5 @@
 -- Document 01, "Examples": a piece of the listing's input, as it lies in memory between two reads.
-use Rattle.std.specs.Prelude.{◌≡◌, ℕ, ◌+◌, ◌-◌, ◌/◌, ◌%◌, min, Bool, true, false, cond, List, [], length, take, drop, nat_lt}
+use Rattle.std.specs.Prelude.{ℕ, ◌+◌, ◌-◌, ◌/◌, ◌%◌, min, Bool, true, false, cond, List, length, take, drop, nat_lt}
 use Rattle.ground.specs.House.{packet_bytes}
 use Rattle.ground.specs.Write.{put}
 use Rattle.state.specs.State.{fresh}
