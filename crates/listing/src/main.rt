@@ -53,8 +53,8 @@ fn read_and_list(
     text: &mut [u8],
 ) -> Step
     requires fits { Fits piece.old text.old }
-    requires rest_lt_packet_bytes { step.rest < packet_bytes }
-    ensures rest_lt_packet_bytes_2 { result.rest < packet_bytes }
+    requires rest_short { step.rest < packet_bytes }
+    ensures rest_stays_short { result.rest < packet_bytes }
     ensures takes_turn { TakesTurn (between_of step piece.old store.old out.old sets.old)
         (turn_in (told_piece result piece.new store.new out.new sets.new text.new)) }
 {
