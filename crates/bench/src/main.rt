@@ -88,21 +88,30 @@ fn tell(l: Letters, text: &mut [u8]) -> usize {
     tell_whole(l, text)
 }
 
-// Runs a scenario, and writes its line.
-fn run(rt: HostRuntime, l: Letters) -> io::Result<()> {
-    let mut text = new_text();
-    let end = tell(l, &mut text);
-    rt.stdout().write_all(text::first(&text, end))
+// Says on standard error what failed, and why.
+fn fail(rt: HostRuntime, what: &str, error: io::Error) {
+    let _ = eprintln!(rt; "{what}: {error}");
 }
 
-fn main(rt: HostRuntime) -> io::Result<()> {
+// Runs a scenario, and writes its line.
+fn run(rt: HostRuntime, l: Letters) {
+    let mut text = new_text();
+    let end = tell(l, &mut text);
+    match rt.stdout().write_all(text::first(&text, end)) {
+        Ok(()) => {}
+        Err(error) => fail(rt, "standard output", error),
+    }
+}
+
+fn main(rt: HostRuntime) {
     let mut letters = no_letters();
     // five letters without a line end are a scenario too
     let _ = rt.stdin().read_exact(&mut letters);
     if is_scenario(letters) {
-        return run(rt, letters);
+        run(rt, letters);
+    } else {
+        let _ = rt.stderr().write_all(
+            b"usage: bench, and five letters on standard input: one of p c a b m n, of 0 1 2, of 1 3, of n a w, and a digit\n",
+        );
     }
-    rt.stderr().write_all(
-        b"usage: bench, and five letters on standard input: one of p c a b m n, of 0 1 2, of 1 3, of n a w, and a digit\n",
-    )
 }

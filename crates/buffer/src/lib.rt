@@ -41,7 +41,7 @@ pub fn judge(records: &[Record], pid: Pid) -> Verdict
     finish(j)
 }
 
-// The same of the first n records of an array, or of all where n is more: whoever calls this one lends no slice of records, and needs no proof by hand.
+// The same of the first n records of an array, or of all where n is more, for whoever has an array and no slice.
 pub fn judge_first(records: [Record; 2048], n: usize, pid: Pid) -> Verdict
     ensures { Judges pid.0 (take n records) result }
 {

@@ -60,7 +60,7 @@ run_step held l b rest y n e =
     ap (λ (o : Outcome). go_on o (following ((l + 1) % 16) rest)) (rule_step held l b n ∙ ap (λ (z : Yield). taken false (continues ((l + 1) % 16) b) 0 z) e)
 
 -- a section gathered whole: it alone is finished, none is given up and nothing is held
-pub record Whole-of (s : List ℕ) (r : Ran) : Type 0 where
+pub record WholeOf (s : List ℕ) (r : Ran) : Type 0 where
   pub sections : r.sections ≡ s ∷ []
   pub given_up : r.given_up ≡ 0
   pub held : r.next.held ≡ []
@@ -68,7 +68,7 @@ pub record Whole-of (s : List ℕ) (r : Ran) : Type 0 where
 -- the rest of a section comes in packets after some of it is held
 module _ (c tail : List ℕ) (end : Some c) where
   pub gathers : (bs : List (List ℕ)) (a : List ℕ) (l : ℕ) → Some a → Every Some bs → IsWhole (a ++ (join bs ++ c))
-      → Whole-of (a ++ (join bs ++ c)) (run (record { held = a; last = seen l false }) (following l (bs ++ (c ++ tail) ∷ [])))
+      → WholeOf (a ++ (join bs ++ c)) (run (record { held = a; last = seen l false }) (following l (bs ++ (c ++ tail) ∷ [])))
   gathers [] a l p e w =
       let s = a ++ c in
       let again : classify (a ++ (c ++ tail)) ≡ Whole (length s) = rw (take-length s, append_assoc) at (whole_again s (length s) tail w) in

@@ -172,7 +172,7 @@ fn accepted(
     out: &mut [u8],
 ) -> Gathered
     requires room { Room (held_of marks) payload.now store.old base out.old }
-    requires marks_value { sound_marks marks ≡ true }
+    requires marks_sound { sound_marks marks ≡ true }
     ensures { leaves (given (told_gathered result)) store.new out.new
         ≡ on_memory (rule (state_of marks store.old base) (record { counter = counter; start = start; payload = payload.now }))
         store.old base out.old }

@@ -124,7 +124,7 @@ fn gathered(
     sets: &mut [u32],
 ) -> Handled
     requires ready { Ready state store.old out.old sets.old }
-    requires i_bound { (i < 8) × (length payload.now ≤ 184) × (counter ≤ 15) × (contradicts_of (held_in i state) store.old (area_start i) ≡ false) }
+    requires area_and_payload { (i < 8) × (length payload.now ≤ 184) × (counter ≤ 15) × (contradicts_of (held_in i state) store.old (area_start i) ≡ false) }
     ensures { told_handled result store.new out.new sets.new
         ≡ put_back state i (rule (state_of (get_or state.areas i free_area).marks store.old (area_start i))
         (record { counter = counter; start = start; payload = payload.now })) store.old out.old sets.old }
@@ -178,7 +178,7 @@ fn wanted(
     sets: &mut [u32],
 ) -> Handled
     requires ready { Ready state store.old out.old sets.old }
-    requires i_bound { (i < 8) × (read_packet bytes.now ≡ given (told_packet packet)) }
+    requires area_and_packet { (i < 8) × (read_packet bytes.now ≡ given (told_packet packet)) }
     ensures { told_handled result store.new out.new sets.new
         ≡ after_tests state i bytes.now store.old out.old sets.old }
 {

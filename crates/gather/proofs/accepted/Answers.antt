@@ -27,7 +27,7 @@ pub returns-then-payload-eq0 : goal.returns-then-payload-eq0
 returns-then-payload-eq0 c =
     let a = c.args in
     ap (λ (g : Gathered). leaves (given (told_gathered g)) a.store.now a.out.now) c.ungathered.ensures
-    ∙ unchanged_on_memory a.marks a.store.now a.base a.out.now c.requires.marks_value c.requires.room.area
+    ∙ unchanged_on_memory a.marks a.store.now a.base a.out.now c.requires.marks_sound c.requires.room.area
     ∙ ap (λ (r : Outcome). on_memory r a.store.now a.base a.out.now)
     (sym (rule_empty (state_of a.marks a.store.now a.base) (packet a.counter a.start a.payload.now) c.if-payload-eq0.true))
 
@@ -36,7 +36,7 @@ returns-then-same-marks c =
     let a = c.args in
     let is_repeat = repeated a.marks a.counter c.is_same-same.result true c.is_same-same.ensures c.if-same-marks.true in
     ap (λ (g : Gathered). leaves (given (told_gathered g)) a.store.now a.out.now) c.ungathered-then-same-marks.ensures
-    ∙ dropped_on_memory a.marks a.store.now a.base a.out.now c.requires.marks_value c.requires.room.area a.counter is_repeat
+    ∙ dropped_on_memory a.marks a.store.now a.base a.out.now c.requires.marks_sound c.requires.room.area a.counter is_repeat
     ∙ ap (λ (r : Outcome). on_memory r a.store.now a.base a.out.now)
     (sym (rule_repeat (state_of a.marks a.store.now a.base) (packet a.counter a.start a.payload.now) c.if-payload-eq0.false is_repeat))
 

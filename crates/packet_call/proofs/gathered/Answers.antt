@@ -28,9 +28,9 @@ tell_places-requires c =
     let out = a.out.now in
     let long : length s.areas ≡ 8 = search (rules, mapped_length, good) in
     let o : Outcome = rule (state_of (get_or s.areas a.i free_area).marks store (area_start a.i)) (record { counter = a.counter; start = a.start; payload = payload }) in
-    let left = gathering_serves s a.i a.counter a.start payload store out a.sets.now long pre.ready pre.i_bound.0 pre.i_bound.1 pre.i_bound.2 {answer = made.Done c.in-Done.g} refl c.in-Done.ensures in
+    let left = gathering_serves s a.i a.counter a.start payload store out a.sets.now long pre.ready pre.area_and_payload.0 pre.area_and_payload.1 pre.area_and_payload.2 {answer = made.Done c.in-Done.g} refl c.in-Done.ensures in
     let many = counted_is o store out _ _ a.i c.in-Done.g left in
-    let few = sections_few s a.i a.counter a.start payload store pre.i_bound.1 pre.i_bound.3 in
+    let few = sections_few s a.i a.counter a.start payload store pre.area_and_payload.1 pre.area_and_payload.3 in
     omega (arith, many, few, pre.ready.listed)
 
 pub returns-in-Refused : goal.returns-in-Refused
@@ -44,7 +44,7 @@ returns-in-Refused c =
     let out = a.out.now in
     let long : length s.areas ≡ 8 = search (rules, mapped_length, good) in
     let o : Outcome = rule (state_of (get_or s.areas a.i free_area).marks store (area_start a.i)) (record { counter = a.counter; start = a.start; payload = payload }) in
-    let left = gathering_serves s a.i a.counter a.start payload store out a.sets.now long pre.ready pre.i_bound.0 pre.i_bound.1 pre.i_bound.2 {answer = made.Refused c.in-Refused._n} refl c.in-Refused.ensures in
+    let left = gathering_serves s a.i a.counter a.start payload store out a.sets.now long pre.ready pre.area_and_payload.0 pre.area_and_payload.1 pre.area_and_payload.2 {answer = made.Refused c.in-Refused._n} refl c.in-Refused.ensures in
     absurd (done_apart o store out _ _ a.i c.in-Refused._n left)
 
 pub returns-in-Done : goal.returns-in-Done
@@ -59,9 +59,9 @@ returns-in-Done c =
     let sets = a.sets.now in
     let long : length s.areas ≡ 8 = search (rules, mapped_length, good) in
     let o : Outcome = rule (state_of (get_or s.areas a.i free_area).marks store (area_start a.i)) (record { counter = a.counter; start = a.start; payload = payload }) in
-    let left = gathering_serves s a.i a.counter a.start payload store out sets long pre.ready pre.i_bound.0 pre.i_bound.1 pre.i_bound.2 {answer = made.Done c.in-Done.g} refl c.in-Done.ensures in
+    let left = gathering_serves s a.i a.counter a.start payload store out sets long pre.ready pre.area_and_payload.0 pre.area_and_payload.1 pre.area_and_payload.2 {answer = made.Done c.in-Done.g} refl c.in-Done.ensures in
     let many = counted_is o store out _ _ a.i c.in-Done.g left in
     taken_is s a.i o store out sets _ _ _ c.in-Done.g left
     (c.tell_places.ensures
     ∙ ap₂ (λ (n : ℕ) (l : List ℕ). put sets 0 (sets_in a.i (places_of s) n l)) many (ap (λ (l : Leaves). l.out) left)
-    ∙ ap (put sets 0) (sets_told s a.i a.counter a.start payload store pre.i_bound.1 pre.i_bound.3 out))
+    ∙ ap (put sets 0) (sets_told s a.i a.counter a.start payload store pre.area_and_payload.1 pre.area_and_payload.3 out))

@@ -20,7 +20,7 @@ returns-then-packet-ne0 c =
     let pre = c.requires in
     let contradicts = contradicts_told a.state a.i a.bytes.now a.store.now a.out.now a.sets.now c.held_of.ensures c.contradicts.ensures in
     let if1 = c.if-contradicts in
-    let scrambling : (contents a.bytes.now).scrambling ≡ a.packet.scrambling = ap (λ (q : Contents). q.scrambling) (read_same a.bytes.now a.packet pre.i_bound.1) in
+    let scrambling : (contents a.bytes.now).scrambling ≡ a.packet.scrambling = ap (λ (q : Contents). q.scrambling) (read_same a.bytes.now a.packet pre.area_and_packet.1) in
     rw c.unhandled-then-packet-ne0.ensures
     (sym (tests_scrambled a.state a.i a.bytes.now a.store.now a.out.now a.sets.now (contradicts ∙ if1.false) (λ e. c.if-packet-ne0.true (sym scrambling ∙ e))))
 
@@ -28,14 +28,14 @@ pub slice_bounds-payload-count : goal.slice_bounds-payload-count
 slice_bounds-payload-count c =
     let a = c.args in
     let pre = c.requires in
-    let inside = start_inside a.bytes.now a.packet pre.i_bound.1 in
+    let inside = start_inside a.bytes.now a.packet pre.area_and_packet.1 in
     let at = c.payload_start-at.ensures in
     omega arith
 
 pub slice_bounds-payload-start : goal.slice_bounds-payload-start
 slice_bounds-payload-start c =
     let a = c.args in
-    let inside = start_inside a.bytes.now a.packet c.requires.i_bound.1 in
+    let inside = start_inside a.bytes.now a.packet c.requires.area_and_packet.1 in
     let at = c.payload_start-at.ensures in
     search rules
 
@@ -49,24 +49,24 @@ returns-then-leaves_none c =
     let payload_start = c.payload_start-at in
     let leaves = c.leaves_none in
     let b = a.bytes.now in
-    let same = read_same b a.packet pre.i_bound.1 in
+    let same = read_same b a.packet pre.area_and_packet.1 in
     let scrambling : (contents b).scrambling ≡ a.packet.scrambling = ap (λ (q : Contents). q.scrambling) same in
-    let part = ap (λ (n : ℕ). take (length b - n) (drop n b)) payload_start.ensures ∙ part_payload b a.packet pre.i_bound.1 in
+    let part = ap (λ (n : ℕ). take (length b - n) (drop n b)) payload_start.ensures ∙ part_payload b a.packet pre.area_and_packet.1 in
     let none = leaves.ensures ∙ ap₂ leaves_none (ap (λ (q : Contents). q.unit_start) (sym same)) part in
     rw c.unhandled-then-leaves_none.ensures
     (sym (tests_none_left a.state a.i b a.store.now a.out.now a.sets.now (contradicts ∙ if1.false) (scrambling ∙ if2.false) (sym none ∙ c.if-leaves_none.true)))
 
-pub gathered-requires-clause-i_bound : goal.gathered-requires-clause-i_bound
-gathered-requires-clause-i_bound c =
+pub gathered-requires-clause-area_and_payload : goal.gathered-requires-clause-area_and_payload
+gathered-requires-clause-area_and_payload c =
     let a = c.args in
     let pre = c.requires in
     let payload_start = c.payload_start-at in
     let b = a.bytes.now in
-    let read = pre.i_bound.1 in
+    let read = pre.area_and_packet.1 in
     let short = payload_short b a.packet read in
     let few = counter_few b a.packet read in
     let contradicts = contradicts_told a.state a.i b a.store.now a.out.now a.sets.now c.held_of.ensures c.contradicts.ensures in
-    (pre.i_bound.0, rw payload_start.ensures short, few, contradicts ∙ c.if-contradicts.false)
+    (pre.area_and_packet.0, rw payload_start.ensures short, few, contradicts ∙ c.if-contradicts.false)
 
 pub returns : goal.returns
 returns c =
@@ -84,9 +84,9 @@ returns c =
     let store = a.store.now in
     let out = a.out.now in
     let sets = a.sets.now in
-    let same = read_same b a.packet pre.i_bound.1 in
+    let same = read_same b a.packet pre.area_and_packet.1 in
     let scrambling : (contents b).scrambling ≡ a.packet.scrambling = ap (λ (q : Contents). q.scrambling) same in
-    let part = ap (λ (n : ℕ). take (length b - n) (drop n b)) payload_start.ensures ∙ part_payload b a.packet pre.i_bound.1 in
+    let part = ap (λ (n : ℕ). take (length b - n) (drop n b)) payload_start.ensures ∙ part_payload b a.packet pre.area_and_packet.1 in
     let none = leaves.ensures ∙ ap₂ leaves_none (ap (λ (q : Contents). q.unit_start) (sym same)) part in
     let brought = packet_same _ _ _ _ _ _ (ap (λ (q : Contents). q.counter) (sym same)) (ap (λ (q : Contents). q.unit_start) (sym same)) part in
     gathered.ensures
