@@ -15,72 +15,41 @@ use Rattle.gather.proofs.OnMemory.{AddedFits, added_fits, WalkedFits, walked_fit
 use Rattle.gather.proofs.memory.started.Goals as goal
 
 -- what the first part gives, with the held bytes, and what the sections after it give
-first_fits : (held : ℕ) (payload store : List ℕ) (base : ℕ) (out : List ℕ) (from : ℕ) (z : Sizes) → Room held payload store base out → 0 < length payload
+first_fits : {held : ℕ} {payload store : List ℕ} {base : ℕ} {out : List ℕ} {from : ℕ} {z : Sizes} → Room held payload store base out → 0 < length payload
     → from ≡ min (1 + get_or payload 0 0) (length payload)
     → z ≡ sizes_of 0 (add (stretch held store base) (stretch (from - 1) payload 1)) → AddedFits held (from - 1) z
-first_fits held payload store base out from z room some cut e =
+first_fits {held} {payload} {store} {base} {out} {from} {z} room some cut e =
     added_fits (stretch held store base) (stretch (from - 1) payload 1) held (from - 1) z
     (length_part held store base (omega (arith, room.bound, room.area)))
     (length_part (from - 1) payload 1 (omega (arith, cut, some)))
     e
 
-rest_fits : (payload : List ℕ) (from : ℕ) (z : Sizes) → z ≡ sizes_of (begun_in (drop from payload)) (walk (drop from payload))
-    → WalkedFits (length payload - from) z
-rest_fits payload from z e = rw (length-drop from payload) at (walked_fits (drop from payload) (begun_in (drop from payload)) z e)
+rest_fits : (payload : List ℕ) (from : ℕ) {z : Sizes} → z ≡ sizes_of (begun_in (drop from payload)) (walk (drop from payload)) → WalkedFits (length payload - from) z
+rest_fits payload from {z} e = rw (length-drop from payload) at (walked_fits (drop from payload) (begun_in (drop from payload)) z e)
 
 pub finish-requires : goal.finish-requires
-finish-requires c =
-    let a = c.args in
-    let f = first_fits a.held a.payload.now a.store.now a.base a.out.now c.lesser-from.result c.added-first.result c.requires.room c.requires.payload_nonzero c.lesser-from.ensures c.added-first.ensures in
-    omega (arith, f, c.requires.room, c.lesser-from.ensures)
+finish-requires c = omega (arith, first_fits c.requires.room c.requires.payload_nonzero c.lesser-from.ensures c.added-first.ensures, c.requires.room, c.lesser-from.ensures)
 
 pub copy-requires : goal.copy-requires
-copy-requires c =
-    let a = c.args in
-    let f = first_fits a.held a.payload.now a.store.now a.base a.out.now c.lesser-from.result c.added-first.result c.requires.room c.requires.payload_nonzero c.lesser-from.ensures c.added-first.ensures in
-    let r = rest_fits a.payload.now c.lesser-from.result c.walk-rest.result c.walk-rest.ensures in
-    omega (arith, f, r, c.requires.room, c.lesser-from.ensures, c.finish.auto)
+copy-requires c = omega (arith, first_fits c.requires.room c.requires.payload_nonzero c.lesser-from.ensures c.added-first.ensures, rest_fits c.args.payload.now c.lesser-from.result c.walk-rest.ensures, c.requires.room, c.lesser-from.ensures, c.finish.auto)
 
 pub overflow_add-from : goal.overflow_add-from
-overflow_add-from c =
-    let a = c.args in
-    let f = first_fits a.held a.payload.now a.store.now a.base a.out.now c.lesser-from.result c.added-first.result c.requires.room c.requires.payload_nonzero c.lesser-from.ensures c.added-first.ensures in
-    let r = rest_fits a.payload.now c.lesser-from.result c.walk-rest.result c.walk-rest.ensures in
-    omega (arith, f, r, c.requires.room, c.lesser-from.ensures)
+overflow_add-from c = omega (arith, first_fits c.requires.room c.requires.payload_nonzero c.lesser-from.ensures c.added-first.ensures, rest_fits c.args.payload.now c.lesser-from.result c.walk-rest.ensures, c.requires.room, c.lesser-from.ensures)
 
 pub copy-requires-2 : goal.copy-requires-2
-copy-requires-2 c =
-    let a = c.args in
-    let f = first_fits a.held a.payload.now a.store.now a.base a.out.now c.lesser-from.result c.added-first.result c.requires.room c.requires.payload_nonzero c.lesser-from.ensures c.added-first.ensures in
-    let r = rest_fits a.payload.now c.lesser-from.result c.walk-rest.result c.walk-rest.ensures in
-    omega (arith, f, r, c.requires.room, c.lesser-from.ensures)
+copy-requires-2 c = omega (arith, first_fits c.requires.room c.requires.payload_nonzero c.lesser-from.ensures c.added-first.ensures, rest_fits c.args.payload.now c.lesser-from.result c.walk-rest.ensures, c.requires.room, c.lesser-from.ensures)
 
 pub overflow_add-result : goal.overflow_add-result
-overflow_add-result c =
-    let a = c.args in
-    let f = first_fits a.held a.payload.now a.store.now a.base a.out.now c.lesser-from.result c.added-first.result c.requires.room c.requires.payload_nonzero c.lesser-from.ensures c.added-first.ensures in
-    let r = rest_fits a.payload.now c.lesser-from.result c.walk-rest.result c.walk-rest.ensures in
-    omega (arith, f, r, c.requires.room, c.lesser-from.ensures)
+overflow_add-result c = omega (arith, first_fits c.requires.room c.requires.payload_nonzero c.lesser-from.ensures c.added-first.ensures, rest_fits c.args.payload.now c.lesser-from.result c.walk-rest.ensures, c.requires.room, c.lesser-from.ensures)
 
 pub overflow_add-result-2 : goal.overflow_add-result-2
-overflow_add-result-2 c =
-    let a = c.args in
-    let f = first_fits a.held a.payload.now a.store.now a.base a.out.now c.lesser-from.result c.added-first.result c.requires.room c.requires.payload_nonzero c.lesser-from.ensures c.added-first.ensures in
-    let r = rest_fits a.payload.now c.lesser-from.result c.walk-rest.result c.walk-rest.ensures in
-    omega (arith, f, r, c.requires.room, c.lesser-from.ensures)
+overflow_add-result-2 c = omega (arith, first_fits c.requires.room c.requires.payload_nonzero c.lesser-from.ensures c.added-first.ensures, rest_fits c.args.payload.now c.lesser-from.result c.walk-rest.ensures, c.requires.room, c.lesser-from.ensures)
 
 pub overflow_add-result-3 : goal.overflow_add-result-3
-overflow_add-result-3 c =
-    let a = c.args in
-    let f = first_fits a.held a.payload.now a.store.now a.base a.out.now c.lesser-from.result c.added-first.result c.requires.room c.requires.payload_nonzero c.lesser-from.ensures c.added-first.ensures in
-    omega (arith, f, c.unfinished.ensures, unfinished_le c.added-first.result.held)
+overflow_add-result-3 c = omega (arith, first_fits c.requires.room c.requires.payload_nonzero c.lesser-from.ensures c.added-first.ensures, c.unfinished.ensures, unfinished_le c.added-first.result.held)
 
 pub overflow_add-result-4 : goal.overflow_add-result-4
-overflow_add-result-4 c =
-    let a = c.args in
-    let f = first_fits a.held a.payload.now a.store.now a.base a.out.now c.lesser-from.result c.added-first.result c.requires.room c.requires.payload_nonzero c.lesser-from.ensures c.added-first.ensures in
-    let r = rest_fits a.payload.now c.lesser-from.result c.walk-rest.result c.walk-rest.ensures in
-    omega (arith, f, r, c.unfinished.ensures, unfinished_le c.added-first.result.held)
+overflow_add-result-4 c = omega (arith, first_fits c.requires.room c.requires.payload_nonzero c.lesser-from.ensures c.added-first.ensures, rest_fits c.args.payload.now c.lesser-from.result c.walk-rest.ensures, c.unfinished.ensures, unfinished_le c.added-first.result.held)
 
 pub returns : goal.returns
 returns c =
