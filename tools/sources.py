@@ -9,7 +9,7 @@ SIGNATURE = re.compile(rf"^( *){MARKS}(?P<name>\S+)(?: \{{[^}}]*\}})? :(?: |$)")
 BLOCK = re.compile(rf"^( *){MARKS}(?:data|record) (?P<name>\S+)")
 SECTION = re.compile(r"^ *module _ .*where$|^ *module _ ")
 USE = re.compile(r"^(?:ghost )?(?:pub )?use (?P<module>[^\s{]+?)(?:\.\{(?P<names>[^}]*)\})?(?: as (?P<alias>\S+?))?;?$")
-RATTLE = re.compile(r"^ *(?:pub(?:\([a-z]+\))? )?(?:fn|struct|enum|const|mod) (\w+)|^ *(?:pub )?(\w+)(?:: |\(|,| \{|$)")
+RATTLE = re.compile(r"^ *(?:pub(?:\([a-z]+\))? )?(?:fn|struct|enum|trait|type|const|static|mod) (\w+)|^ *(?:pub )?(\w+)(?:: |\(|,| \{|$)")
 RUST = re.compile(r"^ *(?:pub(?:\([a-z]+\))? )?(?:fn|struct|enum|const|static|mod|type) (\w+)|^ *(?:pub )?(\w+)(?:: |\(|,| \{)")
 
 

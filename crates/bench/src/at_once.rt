@@ -1,8 +1,7 @@
 // A PAT and a PMT, each read by one call; the PMT's descriptor loops are walked from place to place.
-ghost use Rattle.std.specs.Prelude.{◌≡◌, ◌≤◌, length};
-
+use crate::made::all;
 use crate::whole::{PAT_BYTES, PMT_BYTES, Room, noted, of_pat};
-use tables::{MOST_PROGRAMS, MOST_STREAMS, PmtDescriptor, PmtListed};
+use tables::{MOST_PROGRAMS, MOST_STREAMS};
 
 // A number for each entry of a PAT, and for each of a PMT.
 type Programs = [u16; MOST_PROGRAMS];
@@ -11,50 +10,29 @@ type Numbers = [u16; MOST_STREAMS];
 
 type Types = [u8; MOST_STREAMS];
 
-// Lists of zeros.
-fn no_programs() -> Programs
-    ensures { 253 ≡ length result }
-{
-    [0; MOST_PROGRAMS]
-}
-
-fn no_numbers() -> Numbers
-    ensures { 201 ≡ length result }
-{
-    [0; MOST_STREAMS]
-}
-
-fn no_types() -> Types
-    ensures { 201 ≡ length result }
-{
-    [0; MOST_STREAMS]
-}
-
 // A sum with two further numbers.
 fn added(sum: u64, first: u64, second: u64) -> u64 {
-    std::num::wrapping_add_u64(std::num::wrapping_add_u64(sum, first), second)
+    sum.wrapping_add(first).wrapping_add(second)
 }
 
 // Where a part ends.
 fn end_of(start: u16, size: u16) -> usize {
-    (start as usize) + (size as usize)
+    usize::from(start) + usize::from(size)
 }
 
 // What the programs and PIDs of all entries add to the sum.
 fn of_programs(programs: Programs, pids: Programs, sum: u64) -> u64 {
     let mut now = sum;
-    let mut i: usize = 0;
-    while i < MOST_PROGRAMS {
-        now = added(now, programs[i] as u64, pids[i] as u64);
-        i += 1;
+    for (program, pid) in programs.iter().zip(&pids) {
+        now = added(now, u64::from(*program), u64::from(*pid));
     }
     now
 }
 
 // A PAT's header and all its entries.
 pub(crate) fn read_pat(room: &mut Room, sum: u64) -> u64 {
-    let mut programs = no_programs();
-    let mut pids = no_programs();
+    let mut programs: Programs = all(0);
+    let mut pids: Programs = all(0);
     let header = tables::pat_entries(text::first(room, PAT_BYTES), &mut programs, &mut pids);
     let now = of_programs(programs, pids, sum);
     noted(room, now, of_pat(header))
@@ -64,61 +42,57 @@ pub(crate) fn read_pat(room: &mut Room, sum: u64) -> u64 {
 fn of_loop(bytes: &[u8], from: usize, sum: u64) -> u64 {
     let mut now = sum;
     let mut at = from;
-    while at < bytes.len() {
-        let found = tables::next_descriptor(bytes, at);
-        match found {
-            PmtDescriptor::Refused(_) => return now,
-            PmtDescriptor::Descriptor(place) => {
-                now = std::num::wrapping_add_u64(now, place.tag as u64);
-                at = place.start + place.size;
-            }
-        }
+    // the next descriptor stands where this one's bytes end
+    while let Ok(place) = tables::next_descriptor(bytes, at) {
+        now = now.wrapping_add(u64::from(place.tag));
+        at = place.start + place.size;
     }
     now
 }
 
-// What the first entries of the lists add to the sum, with their descriptors.
-fn of_streams(
-    section: &[u8],
-    n: usize,
+// The lists of a PMT's entries. A list for each, as the call fills them.
+#[derive(Drop)]
+struct Lists {
     types: Types,
     pids: Numbers,
     starts: Numbers,
     sizes: Numbers,
-    sum: u64,
-) -> u64
-    requires { n ≤ 201 }
-{
+}
+
+// What the first entries of the lists add to the sum, with their descriptors.
+fn of_streams(section: &[u8], n: usize, lists: &Lists, sum: u64) -> u64 {
     let mut now = sum;
-    let mut i: usize = 0;
-    while i < n {
-        let end = end_of(starts[i], sizes[i]);
-        now = added(now, types[i] as u64, pids[i] as u64);
-        now = of_loop(text::first(section, end), starts[i] as usize, now);
-        i += 1;
+    let streams = lists.types.iter().zip(&lists.pids);
+    let loops = lists.starts.iter().zip(&lists.sizes);
+    for ((stream_type, pid), (start, size)) in streams.zip(loops).take(n) {
+        now = added(now, u64::from(*stream_type), u64::from(*pid));
+        let part = text::first(section, end_of(*start, *size));
+        now = of_loop(part, usize::from(*start), now);
     }
     now
 }
 
 // A PMT's header, its entries, and all descriptors.
 fn of_pmt(section: &[u8], sum: u64) -> u64 {
-    let mut types = no_types();
-    let mut pids = no_numbers();
-    let mut starts = no_numbers();
-    let mut sizes = no_numbers();
-    let answer = tables::pmt_entries(section, &mut types, &mut pids, &mut starts, &mut sizes);
+    let mut lists = Lists {
+        types: all(0),
+        pids: all(0),
+        starts: all(0),
+        sizes: all(0),
+    };
+    let answer = tables::pmt_entries(
+        section,
+        &mut lists.types,
+        &mut lists.pids,
+        &mut lists.starts,
+        &mut lists.sizes,
+    );
     match answer {
-        PmtListed::Refused(_) => sum,
-        PmtListed::Listed {
-            head: _,
-            pcr_pid,
-            start,
-            size,
-            entries,
-        } => {
-            let now = std::num::wrapping_add_u64(sum, pcr_pid.0 as u64);
-            let now = of_loop(text::first(section, start + size), start, now);
-            of_streams(section, entries, types, pids, starts, sizes, now)
+        Err(_) => sum,
+        Ok(pmt) => {
+            let now = sum.wrapping_add(u64::from(pmt.pcr_pid.0));
+            let part = text::first(section, pmt.start + pmt.size);
+            of_streams(section, pmt.entries, &lists, of_loop(part, pmt.start, now))
         }
     }
 }

@@ -5,113 +5,70 @@ mod at_once;
 mod filters;
 mod made;
 mod packets;
+mod scenario;
 mod stream;
 mod whole;
 
-ghost use Rattle.std.specs.Prelude.{◌≡◌, length};
-
+use crate::made::all;
+use crate::scenario::{Letters, Scenario, What};
 use std::io;
 use std::io::{Read, Write};
-
-// A scenario: its five letters and a line end.
-type Letters = [u8; 6];
-
-// No letters yet.
-fn no_letters() -> Letters
-    ensures { 6 ≡ length result }
-{
-    [0; 6]
-}
-
-// A text that has room for a line.
-fn new_text() -> [u8; 128]
-    ensures { 128 ≡ length result }
-{
-    [0; 128]
-}
-
-// Whether a letter says what to call.
-fn is_what(letter: u8) -> bool {
-    (letter == b'p')
-        | (letter == b'c')
-        | (letter == b'a')
-        | (letter == b'b')
-        | (letter == b'm')
-        | (letter == b'n')
-}
-
-// Whether the letters are a scenario.
-fn is_scenario(l: Letters) -> bool {
-    is_what(l[0])
-        & (b'0' <= l[1])
-        & (l[1] <= b'2')
-        & ((l[2] == b'1') | (l[2] == b'3'))
-        & ((l[3] == b'n') | (l[3] == b'a') | (l[3] == b'w'))
-        & (b'0' <= l[4])
-        & (l[4] <= b'9')
-        & ((l[5] == b'\n') | (l[5] == 0))
-}
+use text::Text;
 
 // A word and a number in the text.
-fn told(text: &mut [u8], at: usize, word: &[u8], n: u64) -> usize {
-    let end = text::word(text, at, word);
-    text::decimal(text, end, n)
+fn told(text: &mut Text<'_>, word: &[u8], n: u64) {
+    text.word(word);
+    text.decimal(n);
 }
 
 // The packets of a scenario handed in, and what they brought in all.
-fn tell_packets(l: Letters, text: &mut [u8]) -> usize {
-    let is_many = l[2] == b'3';
-    let state = filters::opened(is_many, l[3]);
-    let sums = packets::handed_in(state, l[1], is_many, l[4] % 16);
-    let end = told(text, 0, b"packets ", sums.packets);
-    let end = told(text, end, b" sections ", sums.sections);
-    let end = told(text, end, b" bytes ", sums.bytes);
-    let end = told(text, end, b" sets ", sums.sets);
-    let end = told(text, end, b" begun ", sums.begun);
-    text::byte(text, end, b'\n')
+fn tell_packets(scenario: Scenario, text: &mut Text<'_>) {
+    let sums = packets::handed_in(scenario);
+    told(text, b"packets ", sums.packets);
+    told(text, b" sections ", sums.sections);
+    told(text, b" bytes ", sums.bytes);
+    told(text, b" sets ", sums.sets);
+    told(text, b" begun ", sums.begun);
+    text.byte(b'\n');
 }
 
 // The rounds of a scenario without packets, and the sum of the answers.
-fn tell_whole(l: Letters, text: &mut [u8]) -> usize {
-    let rounds = l[4] % 16;
-    let sum = whole::read(l[0], rounds);
-    let end = told(text, 0, b"rounds ", rounds as u64);
-    let end = told(text, end, b" sum ", sum);
-    text::byte(text, end, b'\n')
-}
-
-// Runs a scenario.
-fn tell(l: Letters, text: &mut [u8]) -> usize {
-    if l[0] == b'p' {
-        return tell_packets(l, text);
-    }
-    tell_whole(l, text)
+fn tell_whole(scenario: Scenario, text: &mut Text<'_>) {
+    told(text, b"rounds ", u64::from(scenario.rounds));
+    told(text, b" sum ", whole::read(scenario.what, scenario.rounds));
+    text.byte(b'\n');
 }
 
 // Says on standard error what failed, and why.
+// It stands in each program: a library's public call has a promise with one outcome (tools/promised), and none says what a file or a terminal does.
 fn fail(rt: HostRuntime, what: &str, error: io::Error) {
     let _ = eprintln!(rt; "{what}: {error}");
 }
 
 // Runs a scenario, and writes its line.
-fn run(rt: HostRuntime, l: Letters) {
-    let mut text = new_text();
-    let end = tell(l, &mut text);
-    match rt.stdout().write_all(text::first(&text, end)) {
+fn run(rt: HostRuntime, scenario: Scenario) {
+    let mut room: [u8; 128] = all(0);
+    let mut text = Text::new(&mut room);
+    match scenario.what {
+        What::Packets => tell_packets(scenario, &mut text),
+        _ => tell_whole(scenario, &mut text),
+    }
+    match rt.stdout().write_all(text.written()) {
         Ok(()) => {}
         Err(error) => fail(rt, "standard output", error),
     }
 }
 
 fn main(rt: HostRuntime) {
-    let mut letters = no_letters();
+    let mut letters: Letters = all(0);
     // five letters without a line end are a scenario too
     let _ = rt.stdin().read_exact(&mut letters);
-    if is_scenario(letters) {
-        run(rt, letters);
-    } else {
-        let _ = rt.stderr().write_all(
-            b"usage: bench, and five letters on standard input: one of p c a b m n, of 0 1 2, of 1 3, of n a w, and a digit\n",
-        );
+    match scenario::of(letters) {
+        Some(scenario) => run(rt, scenario),
+        None => {
+            let _ = rt.stderr().write_all(
+                b"usage: bench, and five letters on standard input: one of p c a b m n, of 0 1 2, of 1 3, of n a w, and a digit\n",
+            );
+        }
     }
 }

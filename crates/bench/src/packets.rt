@@ -1,6 +1,9 @@
 // A stream handed in packet by packet, round after round.
-use crate::stream;
-use driver::{Handling, State};
+use crate::made::all;
+use crate::scenario::Scenario;
+use crate::{filters, stream};
+use driver::{Report, STORE_BYTES, State};
+use ground::Refusal;
 use packet::PACKET_BYTES;
 
 // What the packets brought in all: a reader sees by it that two builds did the same work.
@@ -13,6 +16,28 @@ pub(crate) struct Sums {
     pub(crate) begun: u64,
 }
 
+impl Sums {
+    // The sums before the first packet.
+    const NONE: Sums = Sums {
+        packets: 0,
+        sections: 0,
+        bytes: 0,
+        sets: 0,
+        begun: 0,
+    };
+
+    // A packet's answer, and the first set of the list after it.
+    fn add(&mut self, answer: Result<Option<Report>, Refusal>, set: u32) {
+        self.packets = self.packets.wrapping_add(1);
+        if let Ok(Some(report)) = answer {
+            self.sections = self.sections.wrapping_add(report.sections as u64);
+            self.bytes = self.bytes.wrapping_add(report.bytes as u64);
+            self.sets = self.sets.wrapping_add(u64::from(set));
+            self.begun = self.begun.wrapping_add(report.begun as u64);
+        }
+    }
+}
+
 // The list of sets.
 type List = [u32; driver::LEAST_LIST];
 
@@ -23,64 +48,31 @@ struct Run {
     sums: Sums,
 }
 
-// The sums with a packet's answer, and with the first set of the list after it.
-fn with_answer(sums: Sums, answer: Handling, set: u32) -> Sums {
-    let packets = std::num::wrapping_add_u64(sums.packets, 1);
-    match answer {
-        Handling::Wanted(report) => Sums {
-            packets,
-            sections: std::num::wrapping_add_u64(sums.sections, report.sections as u64),
-            bytes: std::num::wrapping_add_u64(sums.bytes, report.bytes as u64),
-            sets: std::num::wrapping_add_u64(sums.sets, set as u64),
-            begun: std::num::wrapping_add_u64(sums.begun, report.begun as u64),
-        },
-        _ => Sums {
-            packets,
-            sections: sums.sections,
-            bytes: sums.bytes,
-            sets: sums.sets,
-            begun: sums.begun,
-        },
-    }
-}
-
-// All packets of the stream, one after the other.
+// All packets of the stream, one after the other. The state goes by value, as the driver takes it: behind a borrow it is copied once more for each packet.
 fn round(run: Run, packets: &[u8], store: &mut [u8], out: &mut [u8], sets: &mut List) -> Run {
     let mut state = run.state;
     let mut sums = run.sums;
-    let mut at: usize = 0;
-    while PACKET_BYTES <= packets.len() - at {
-        let end = at + PACKET_BYTES;
-        let handled = driver::packet(state, &packets[at..end], store, out, sets);
+    for packet in packets.chunks_exact(PACKET_BYTES) {
+        let handled = driver::packet(state, packet, store, out, sets);
         state = handled.state;
-        let answer = handled.answer;
-        sums = with_answer(sums, answer, sets[0]);
-        at = end;
+        sums.add(handled.answer, sets[0]);
     }
     Run { state, sums }
 }
 
-// The stream of a share handed in so many times.
-pub(crate) fn handed_in(state: State, share: u8, is_many: bool, rounds: u8) -> Sums {
+// The stream of a scenario handed in so many times.
+pub(crate) fn handed_in(scenario: Scenario) -> Sums {
     let mut packets = stream::zeros();
-    stream::make(&mut packets, share, is_many);
-    let mut store = [0u8; driver::STORE_BYTES];
-    let mut out = [0u8; gather::LEAST_OUTPUT];
-    let mut sets: List = [0; driver::LEAST_LIST];
+    stream::make(&mut packets, scenario.share, scenario.is_many);
+    let mut store: [u8; STORE_BYTES] = all(0);
+    let mut out: [u8; gather::LEAST_OUTPUT] = all(0);
+    let mut sets: List = all(0);
     let mut run = Run {
-        state,
-        sums: Sums {
-            packets: 0,
-            sections: 0,
-            bytes: 0,
-            sets: 0,
-            begun: 0,
-        },
+        state: filters::opened(scenario.is_many, scenario.numbers),
+        sums: Sums::NONE,
     };
-    let mut left = rounds;
-    while 0 < left {
+    for _ in 0..scenario.rounds {
         run = round(run, &packets, &mut store, &mut out, &mut sets);
-        left -= 1;
     }
     run.sums
 }

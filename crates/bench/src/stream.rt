@@ -2,6 +2,8 @@
 ghost use Rattle.std.specs.Prelude.{◌≡◌, ◌+◌, ◌<◌, ◌≤◌, length};
 
 use crate::made;
+use crate::made::all;
+use crate::scenario::Share;
 use packet::PACKET_BYTES;
 
 // How many packets there are: of the fewest wanted ones each of 8 PIDs has 16.
@@ -15,6 +17,9 @@ pub(crate) const FIRST_PID: u16 = 0x100;
 
 // The table_id of the sections.
 pub(crate) const TABLE: u8 = 0x80;
+
+// The byte that stuffing is.
+const STUFFING: u8 = 0xFF;
 
 // The PID that no filter is open on.
 const OTHER_PID: u16 = 0x200;
@@ -33,18 +38,18 @@ struct Turn {
 pub(crate) fn zeros() -> Stream
     ensures { 3850240 ≡ length result }
 {
-    [0; 3850240]
+    all(0)
 }
 
 // How many wanted packets stand before this one, by the share.
-fn wanted_before(share: u8, i: usize) -> usize
+fn wanted_before(share: Share, i: usize) -> usize
     requires { i ≤ 20480 }
     ensures { result ≤ 20480 }
 {
     match share {
-        b'0' => (i + 159) / 160,
-        b'1' => (9 * i + 159) / 160,
-        _ => i,
+        Share::Fewest => (i + 159) / 160,
+        Share::Few => (9 * i + 159) / 160,
+        Share::All => i,
     }
 }
 
@@ -53,14 +58,15 @@ fn turn_of(wanted: usize, is_many: bool) -> Turn
     ensures { result.pid < 8 }
 {
     if is_many {
-        return Turn {
+        Turn {
             pid: wanted % 8,
             number: wanted / 8,
-        };
-    }
-    Turn {
-        pid: 0,
-        number: wanted,
+        }
+    } else {
+        Turn {
+            pid: 0,
+            number: wanted,
+        }
     }
 }
 
@@ -69,12 +75,13 @@ fn head(p: &mut Bytes, bits: u8, pid: u16, fourth: u8)
     requires { (bits ≤ 64) × (pid < 8192) }
 {
     p[0] = 0x47;
-    p[1] = bits + (pid / 256) as u8;
-    p[2] = (pid % 256) as u8;
+    let [high, low] = pid.to_be_bytes();
+    p[1] = bits + high;
+    p[2] = low;
     p[3] = fourth;
 }
 
-// The header of a section of this size.
+// The header of a section of this size. The size is a constant of each caller.
 fn section(p: &mut Bytes, at: usize, size: usize)
     requires { (at + 2 < 188) × (3 ≤ size) × (size ≤ 1024) }
 {
@@ -88,19 +95,19 @@ fn section(p: &mut Bytes, at: usize, size: usize)
 // Of 16 packets of a PID 8 bring a section of 100 bytes, 2 bring three of 50, and 6 together one of 1,024.
 fn sections(p: &mut Bytes, kind: usize) {
     p[4] = 0;
-    if kind < 8 {
-        section(p, 5, 100);
-        made::stuff(p, 105);
-        return;
+    match kind {
+        0..=7 => {
+            section(p, 5, 100);
+            p[105..].fill(STUFFING);
+        }
+        8..=9 => {
+            section(p, 5, 50);
+            section(p, 55, 50);
+            section(p, 105, 50);
+            p[155..].fill(STUFFING);
+        }
+        _ => section(p, 5, 1024),
     }
-    if kind < 10 {
-        section(p, 5, 50);
-        section(p, 55, 50);
-        section(p, 105, 50);
-        made::stuff(p, 155);
-        return;
-    }
-    section(p, 5, 1024);
 }
 
 // A packet that is wanted; its kind is its number modulo 16.
@@ -117,7 +124,7 @@ fn wanted(p: &mut Bytes, turn: Turn)
     }
     head(p, 0, pid, 0x10 + (kind as u8));
     if kind == 15 {
-        made::stuff(p, 109);
+        p[109..].fill(STUFFING);
     }
 }
 
@@ -133,7 +140,7 @@ fn unwanted(p: &mut Bytes, i: usize) {
 }
 
 // The packet at an index of the stream.
-fn packet_at(i: usize, share: u8, is_many: bool) -> Bytes
+fn packet_at(i: usize, share: Share, is_many: bool) -> Bytes
     requires { i < 20480 }
 {
     let mut p: Bytes = [0; PACKET_BYTES];
@@ -146,25 +153,12 @@ fn packet_at(i: usize, share: u8, is_many: bool) -> Bytes
     p
 }
 
-// A packet's bytes at their place.
-fn put(stream: &mut [u8], at: usize, p: Bytes)
-    requires { at + 188 ≤ length stream.old }
-{
-    let mut i: usize = 0;
-    while i < PACKET_BYTES {
-        stream[at + i] = p[i];
-        i += 1;
-    }
-}
-
 // Makes the stream of a share, for one PID or for 8.
-pub(crate) fn make(stream: &mut [u8], share: u8, is_many: bool)
+pub(crate) fn make(stream: &mut [u8], share: Share, is_many: bool)
     requires { 3850240 ≡ length stream.old }
 {
-    let mut i: usize = 0;
-    while i < PACKETS {
-        let p = packet_at(i, share, is_many);
-        put(stream, PACKET_BYTES * i, p);
-        i += 1;
+    for i in 0..PACKETS {
+        let place = PACKET_BYTES * i;
+        stream[place..place + PACKET_BYTES].copy_from_slice(&packet_at(i, share, is_many));
     }
 }

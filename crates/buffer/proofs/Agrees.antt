@@ -6,8 +6,12 @@ use mathlib.Core.List.{List, [], ◌∷◌}
 use Prim.Native.Nat.{ℕ, suc, ◌+◌, ◌≤◌}
 use borrow.Author.Tests.{ltb-false}
 use lib.Dec.{ltb, eqb}
+use Rattle.std.specs.Prelude.{Ok, Err}
 use Rattle.ground.specs.Answer.{Answer, refused, given}
 use Rattle.ground.proofs.Test.{either_way}
+use Rattle.std.specs.declared.result.Result.{Result}
+use Rattle.ground.specs.declared.Refusal.{Refusal}
+use Rattle.ground.specs.declared.Refusal.TheVariants as refusal
 use Rattle.buffer.specs.Verdict.{Finding, overruns, lingers, told_verdict, Arrival, arrivals, goes_back, Buffer, empty_buffer, left_at, arrive, is_too_high, is_too_late, first_break, verdict_of}
 use Rattle.buffer.specs.Model.{begin_of, left_of, busy_with, moved, filled, arrived_at, came_after, step_of, walked}
 use Rattle.buffer.specs.declared.Record.{Record}
@@ -24,7 +28,7 @@ other j i t p e = rw e
 
 -- of the PID, by whether its tick is below the one before
 own : (j : Judging) (i t p : ℕ) (low : Bool) → eqb p j.pid ≡ true → ltb t j.last ≡ low
-    → step_of j i t p ≡ cond low (moved j t (verdict.Refused 70)) (came_after j i t j.verdict)
+    → step_of j i t p ≡ cond low (moved j t (Err refusal.TickOrder)) (came_after j i t j.verdict)
 unfolding step_of
 own j i t p low e f = rw (e, f)
 
@@ -46,7 +50,7 @@ module _ (j : Judging) (i : ℕ) (r : Record) (rs : List Record) (X : List Arriv
   abbrev all : List Arrival
   all = record { index = i; tick = t } ∷ more
 
-  one_more : said (moved j t (verdict.Refused 70)) (suc i) rs ≡ refused 70
+  one_more : said (moved j t (Err refusal.TickOrder)) (suc i) rs ≡ refused 70
       → (j.last ≤ t → said (came_after j i t j.verdict) (suc i) rs ≡ unless_back t more (X all))
       → said j (suc i) rs ≡ unless_back j.last more (X more)
       → said j i (r ∷ rs) ≡ unless_back j.last (arrivals j.pid i (r ∷ rs)) (X (arrivals j.pid i (r ∷ rs)))
@@ -64,7 +68,7 @@ module _ (j : Judging) (i : ℕ) (r : Record) (rs : List Record) (X : List Arriv
       go false e = rw (other j i t r.pid.0 e) skip
 
 -- ---- the verdict is settled: no packet changes it
-abbrev Settled : Verdict → Type 0
+abbrev Settled : Result Verdict Refusal → Type 0
 Settled v = (j : Judging) (i t : ℕ) → came_after j i t v ≡ moved j t v
 
 settled : (j : Judging) (i : ℕ) (rs : List Record) → Settled j.verdict → said j i rs ≡ unless_back j.last (arrivals j.pid i rs) (told_verdict j.verdict)
@@ -72,17 +76,17 @@ unfolding walked
 settled j i [] s = refl
 settled j i (r ∷ rs) s =
     one_more j i r rs (λ _. told_verdict j.verdict)
-    (settled (moved j r.tick (verdict.Refused 70)) (suc i) rs (λ k n u. refl) ∙ either_way (goes_back r.tick (arrivals j.pid (suc i) rs)) (refused 70))
+    (settled (moved j r.tick (Err refusal.TickOrder)) (suc i) rs (λ k n u. refl) ∙ either_way (goes_back r.tick (arrivals j.pid (suc i) rs)) (refused 70))
     (λ _. rw (s j i r.tick) (settled (moved j r.tick j.verdict) (suc i) rs s))
     (settled j (suc i) rs s)
 
 -- ---- no rule is broken yet
 abbrev running : ℕ → Buffer → ℕ → Judging
-running pid b m = record { pid = pid; last = b.tick; level = b.level; busy = m; verdict = verdict.Passes }
+running pid b m = record { pid = pid; last = b.tick; level = b.level; busy = m; verdict = Ok verdict.Passes }
 
 -- a packet, by the two tests
 by_tests : (j : Judging) (i t : ℕ) (high late : Bool) → ltb 55296 (left_of j t + 20304) ≡ high → ltb 1329 (busy_with (left_of j t) j.busy) ≡ late
-    → arrived_at j i t ≡ cond high (moved j t (verdict.Overruns i)) (cond late (moved j t (verdict.Lingers i)) (filled j t))
+    → arrived_at j i t ≡ cond high (moved j t (Ok (verdict.Overruns i))) (cond late (moved j t (Ok (verdict.Lingers i))) (filled j t))
 unfolding arrived_at
 by_tests j i t high late e f = rw (e, f)
 
@@ -92,7 +96,7 @@ unfolding walked
 runs pid b m i [] h = refl
 runs pid b m i (r ∷ rs) h =
     one_more j i r rs (λ packets. given (first_break b packets))
-    (settled (moved j t (verdict.Refused 70)) (suc i) rs (λ k n u. refl) ∙ either_way (goes_back t (arrivals pid (suc i) rs)) (refused 70))
+    (settled (moved j t (Err refusal.TickOrder)) (suc i) rs (λ k n u. refl) ∙ either_way (goes_back t (arrivals pid (suc i) rs)) (refused 70))
     (λ k. came k (is_too_high (arrive b t)) (is_too_late (arrive b t)) refl refl (runs pid (arrive b t) (busy_with (left_at b t) m) (suc i) rs (busy_next b t m h k)))
     (runs pid b m (suc i) rs h)
   where
@@ -109,8 +113,8 @@ runs pid b m i (r ∷ rs) h =
         → said (running pid (arrive b t) (busy_with (left_at b t) m)) (suc i) rs ≡ unless_back t (arrivals pid (suc i) rs) (given (first_break (arrive b t) (arrivals pid (suc i) rs)))
         → said (arrived_at j i t) (suc i) rs
         ≡ unless_back t (arrivals pid (suc i) rs) (given (cond high (overruns i) (cond late (lingers i) (first_break (arrive b t) (arrivals pid (suc i) rs)))))
-    came k true late e f on = rw (by_tests j i t true late e (count k ∙ f)) (settled (moved j t (verdict.Overruns i)) (suc i) rs (λ x n u. refl))
-    came k false true e f on = rw (by_tests j i t false true e (count k ∙ f)) (settled (moved j t (verdict.Lingers i)) (suc i) rs (λ x n u. refl))
+    came k true late e f on = rw (by_tests j i t true late e (count k ∙ f)) (settled (moved j t (Ok (verdict.Overruns i))) (suc i) rs (λ x n u. refl))
+    came k false true e f on = rw (by_tests j i t false true e (count k ∙ f)) (settled (moved j t (Ok (verdict.Lingers i))) (suc i) rs (λ x n u. refl))
     came k false false e f on = rw (by_tests j i t false false e (count k ∙ f)) on
 
 pub agrees : (pid : ℕ) (rs : List Record) → told_verdict (walked (begin_of pid) 0 rs).verdict ≡ verdict_of pid rs

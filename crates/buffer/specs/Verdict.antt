@@ -1,5 +1,8 @@
 -- Document 02, ticket 7; H.222.0 2.4.2.3 and 2.4.2.6: the verdict of the transport buffer on the packets of a PID.
 use Rattle.std.specs.Prelude.{Bool, false, cond, ◌||◌, List, [], ◌∷◌, ℕ, suc, ◌+◌, ◌-◌, ltb, eqb}
+use Rattle.std.specs.declared.result.Result.{Result}
+use Rattle.ground.specs.Told.{told}
+use Rattle.ground.specs.declared.Refusal.{Refusal}
 use Rattle.ground.specs.Answer.{Answer, refused, given}
 use Rattle.ground.specs.Refusal.{Row, judge, ◌when◌}
 use Rattle.buffer.specs.declared.Record.{Record}
@@ -12,12 +15,15 @@ pub data Finding : Type 0 where
   overruns : ℕ → Finding
   lingers : ℕ → Finding
 
--- what the calls say in document 02's terms
-abbrev pub told_verdict : Verdict → Answer Finding
-told_verdict verdict.Passes = given passes
-told_verdict (verdict.Overruns i) = given (overruns i)
-told_verdict (verdict.Lingers i) = given (lingers i)
-told_verdict (verdict.Refused n) = refused n
+-- what a verdict says in document 02's terms
+abbrev pub finding_of : Verdict → Finding
+finding_of verdict.Passes = passes
+finding_of (verdict.Overruns i) = overruns i
+finding_of (verdict.Lingers i) = lingers i
+
+-- what the calls say
+abbrev pub told_verdict : Result Verdict Refusal → Answer Finding
+told_verdict = told finding_of
 
 -- ---- the packets
 -- a packet of the PID: its record's index in the lent list, and its tick

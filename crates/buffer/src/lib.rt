@@ -4,8 +4,8 @@
 ghost use Rattle.std.specs.Prelude.{take};
 ghost use Rattle.buffer.specs.Promises.{Judges};
 
-use crate::model::{begin, finish, step};
-use octets::lesser;
+use crate::model::{begin, step};
+use ground::Refusal;
 use pid::Pid;
 
 pub mod laws;
@@ -18,33 +18,28 @@ pub struct Record {
     pub pid: Pid,
 }
 
-// Whether the packets of a PID pass, or the first record that breaks a rule, by its index.
+// Whether the packets of a PID pass, or the first record that breaks a rule, by its index: passing is a finding, and no lack of one.
 #[derive(Clone, Copy)]
 pub enum Verdict {
     Passes,
     Overruns(usize),
     Lingers(usize),
-    Refused(u8),
 }
 
 // The verdict on the packets of a PID. All that is done here is to go from record to record: what one does to the buffer is `step`.
-pub fn judge(records: &[Record], pid: Pid) -> Verdict
+pub fn judge(records: &[Record], pid: Pid) -> Result<Verdict, Refusal>
     ensures { Judges pid.0 records.now result }
 {
     let mut j = begin(pid.0);
-    let mut i: usize = 0;
-    while i < records.len() {
-        let r = records[i];
+    for (i, r) in records.iter().enumerate() {
         j = step(j, i, r.tick, r.pid.0);
-        i += 1;
     }
-    finish(j)
+    j.verdict
 }
 
 // The same of the first n records of an array, or of all where n is more, for whoever has an array and no slice.
-pub fn judge_first(records: [Record; 2048], n: usize, pid: Pid) -> Verdict
+pub fn judge_first(records: [Record; 2048], n: usize, pid: Pid) -> Result<Verdict, Refusal>
     ensures { Judges pid.0 (take n records) result }
 {
-    let k = lesser(n, 2048);
-    judge(&records[..k], pid)
+    judge(&records[..n.min(2048)], pid)
 }

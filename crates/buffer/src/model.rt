@@ -1,8 +1,9 @@
 // The buffer from record to record: a level in 108ths of a byte, which falls by one a tick.
 ghost use Rattle.std.specs.Prelude.{◌≡◌, ◌-◌, ◌≤◌};
-ghost use Rattle.buffer.specs.Model.{begin_of, step_of, arrived_at, busy_with, moved};
+ghost use Rattle.buffer.specs.Model.{begin_of, step_of, arrived_at, busy_with, moved, is_settled};
 
 use crate::Verdict;
+use ground::Refusal;
 
 // What a packet of 188 bytes brings, in 108ths of a byte.
 const PACKET: u64 = 20_304;
@@ -20,7 +21,7 @@ pub(crate) struct Judging {
     pub last: u64,
     pub level: u16,
     pub busy: u16,
-    pub verdict: Verdict,
+    pub verdict: Result<Verdict, Refusal>,
 }
 
 // Before any record the buffer is empty.
@@ -32,41 +33,26 @@ pub(crate) fn begin(pid: u16) -> Judging
         last: 0,
         level: 0,
         busy: 0,
-        verdict: Verdict::Passes,
+        verdict: Ok(Verdict::Passes),
     }
 }
 
 // The verdict is settled, and only a tick below the one before may still change it.
-fn moved(j: Judging, tick: u64, verdict: Verdict) -> Judging
+fn moved(j: Judging, tick: u64, verdict: Result<Verdict, Refusal>) -> Judging
     ensures { result ≡ moved j tick verdict }
 {
     Judging {
-        pid: j.pid,
         last: tick,
-        level: j.level,
-        busy: j.busy,
         verdict,
+        ..j
     }
-}
-
-// What is left of a level after some ticks.
-fn left_of(level: u64, ticks: u64) -> u64
-    ensures { result ≡ level - ticks }
-{
-    if level < ticks {
-        return 0;
-    }
-    level - ticks
 }
 
 // How many packets have come since the buffer was found empty, with one that finds this level left.
 fn busy_with(left: u64, busy: u16) -> u64
     ensures { result ≡ busy_with left busy }
 {
-    if left == 0 {
-        return 1;
-    }
-    busy as u64 + 1
+    if left == 0 { 1 } else { u64::from(busy) + 1 }
 }
 
 // A packet of the PID, none before it having broken a rule.
@@ -74,21 +60,31 @@ fn arrived(j: Judging, i: usize, tick: u64) -> Judging
     requires { j.last ≤ tick }
     ensures { result ≡ arrived_at j i tick }
 {
-    let left = left_of(j.level as u64, tick - j.last);
+    let left = u64::from(j.level).saturating_sub(tick - j.last);
     let level = left + PACKET;
     if ROOM < level {
-        return moved(j, tick, Verdict::Overruns(i));
+        return moved(j, tick, Ok(Verdict::Overruns(i)));
     }
     let busy = busy_with(left, j.busy);
     if MOST_BUSY < busy {
-        return moved(j, tick, Verdict::Lingers(i));
+        return moved(j, tick, Ok(Verdict::Lingers(i)));
     }
     Judging {
-        pid: j.pid,
         last: tick,
         level: level as u16,
         busy: busy as u16,
-        verdict: Verdict::Passes,
+        verdict: Ok(Verdict::Passes),
+        ..j
+    }
+}
+
+// Whether a record has broken a rule.
+fn is_settled(verdict: Result<Verdict, Refusal>) -> bool
+    ensures { result ≡ is_settled verdict }
+{
+    match verdict {
+        Ok(Verdict::Passes) => false,
+        Ok(Verdict::Overruns(_)) | Ok(Verdict::Lingers(_)) | Err(_) => true,
     }
 }
 
@@ -100,18 +96,10 @@ pub(crate) fn step(j: Judging, i: usize, tick: u64, pid: u16) -> Judging
         return j;
     }
     if tick < j.last {
-        return moved(j, tick, Verdict::Refused(70));
+        return moved(j, tick, Err(Refusal::TickOrder));
     }
-    let verdict = j.verdict;
-    let Verdict::Passes = verdict else {
-        return moved(j, tick, verdict);
-    };
+    if is_settled(j.verdict) {
+        return moved(j, tick, j.verdict);
+    }
     arrived(j, i, tick)
-}
-
-// The verdict on all records.
-pub(crate) fn finish(j: Judging) -> Verdict
-    ensures { result ≡ j.verdict }
-{
-    j.verdict
 }

@@ -1,6 +1,7 @@
 -- Each crate's claims are proved there.
 -- Assumes nothing.
 use Rattle.ground.proofs.Outcome.{stated}
+use Rattle.ground.proofs.Claims as refusals
 use Rattle.octets.proofs.Claims as bytes
 use Rattle.pid.proofs.Claims as pids
 use Rattle.section.proofs.Claims as lengths
@@ -32,6 +33,7 @@ use Rattle.claims.specs.Claims.{EveryClaim}
 pub every_claim : EveryClaim
 every_claim =
     record {
+      ground = refusals.claims;
       octets = bytes.claims;
       pid = pids.claims;
       section = lengths.claims;

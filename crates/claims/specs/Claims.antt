@@ -1,5 +1,6 @@
 -- The first and the second demand: every public call has one outcome, every table of refusals is exact, a refused call leaves everything as it was, and what the bytes say beyond the calls' promises.
 use Rattle.ground.specs.Outcome.{Determined, Stated}
+use Rattle.ground.specs.Claims as refusals
 use Rattle.octets.specs.Claims as bytes
 use Rattle.pid.specs.Claims as pids
 use Rattle.section.specs.Claims as lengths
@@ -28,6 +29,8 @@ use Rattle.runs.specs.Promises.{DemandThreeHolds, AsNewHolds}
 use Rattle.stars.specs.Stars.{EveryCase}
 
 pub record EveryClaim : Type 0 where
+  -- the refusals' names and numbers
+  pub ground : refusals.Claims
   -- numbers of several bytes, a byte or 0, the lesser of two
   pub octets : bytes.Claims
   -- PIDs

@@ -9,7 +9,7 @@ use Rattle.ground.specs.Refusal.{Row, judge, ◌when◌}
 use Rattle.ground.specs.Walk.{total}
 use Rattle.ground.proofs.Answer.{given_same}
 use Rattle.ground.proofs.Judged.{given_by}
-use Rattle.ground.proofs.Refusal.{accepted}
+use Rattle.ground.proofs.Refused.{accepted}
 use Rattle.clock.specs.Modulus.{minus_mod}
 use Rattle.clock.specs.Range.{stamp_turn, reference_turn}
 use Rattle.clock.specs.Difference.{stamp_difference}

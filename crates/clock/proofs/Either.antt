@@ -4,7 +4,7 @@ use Rattle.std.proofs.Common.{◌≡◌, ℕ, false, ◌↔◌, List, sym, ap, �
 use Rattle.ground.specs.Answer.{refused, given}
 use Rattle.ground.specs.Number.{number_at}
 use Rattle.ground.proofs.Judged.{given_by}
-use Rattle.ground.proofs.Refusal.{accepted}
+use Rattle.ground.proofs.Refused.{accepted}
 use Rattle.clock.specs.Stamp.{Prefixed, is_no_prefix, is_unmarked, prefix_of, stamp_of, prefixed_of, stamp_read_refusals, any_stamp_refusals, read_stamp, read_any_stamp}
 use Rattle.clock.proofs.Field.{marked}
 

@@ -1,6 +1,5 @@
 pub mod Modulus
 pub mod Turn
-pub mod Signed
 pub mod Less
 pub mod SignedSum
 pub mod ClockSums

@@ -1,6 +1,6 @@
 -- A field that was written is there and holds its value, and one that was read is made again of its value; what a promise admits beside either is the same outcome.
 -- Assumes nothing.
-use Rattle.std.proofs.Common.{◌≡◌, ℕ, ◌%◌, ◌^◌, ◌<◌, ◌≤◌, false, ltb, leb, List, length, sym, ap, ◌∙◌, zero-add, arith, ltb-false, le-ltb, leb-false, leb-true}
+use Rattle.std.proofs.Common.{◌≡◌, ℕ, ◌%◌, ◌^◌, ◌<◌, ◌≤◌, false, ltb, leb, List, length, Ok, sym, ap, ◌∙◌, zero-add, arith, ltb-false, le-ltb, leb-false, leb-true}
 use borrow.Author.Tests.{lt-leb, not-false}
 use Rattle.ground.specs.Answer.{refused, given}
 use Rattle.ground.specs.Number.{Bytes, number_at, bytes_of}
@@ -9,7 +9,7 @@ use Rattle.ground.specs.Write.{put}
 use Rattle.ground.proofs.Answer.{given_apart}
 use Rattle.ground.proofs.Judged.{given_by}
 use Rattle.ground.proofs.Number.{length-bytes_of, number_at-put, number_at_lt, put-number_at}
-use Rattle.ground.proofs.Refusal.{accepted, none}
+use Rattle.ground.proofs.Refused.{accepted, none}
 use Rattle.ground.proofs.Test.{both_true}
 use Rattle.ground.proofs.Write.{length-put}
 use Rattle.clock.specs.Range.{is_no_stamp, is_no_reference, stamp_turn, reference_turn}
@@ -17,9 +17,6 @@ use Rattle.clock.specs.Written.{Wrote, wrote, unwritten}
 use Rattle.clock.specs.Stamp.{Prefixed, read_stamp, read_any_stamp, write_stamp, stamp_read_refusals, any_stamp_refusals, stamp_write_refusals, is_no_prefix, lacks_marker, is_unmarked, stamp_of, prefixed_of, stamp_field}
 use Rattle.clock.specs.Reference.{read_reference, write_reference, reference_read_refusals, reference_write_refusals, reference_of, reference_field, extension_of, reserved_of}
 use Rattle.clock.specs.Claims.RoundTrip.{RoundTrips}
-use Rattle.clock.specs.declared.Written.TheVariants as written
-use Rattle.clock.specs.declared.stamp.Reading.TheVariants as stamp
-use Rattle.clock.specs.declared.reference.Reading.TheVariants as reference
 use Rattle.clock.proofs.Field.{stamp_field_lt, stamp_field_marked, stamp_of_field, stamp_of_lt, marked, field_of_any, field_of_stamp, reference_field_lt, reference_extension, reference_of_field, reference_of_lt, field_of_reference}
 use Rattle.clock.proofs.Outcome.{outcomes}
 
@@ -30,9 +27,9 @@ module _ (s : List ℕ) (k n : ℕ) where
   filled = put s 0 (bytes_of k n)
 
   -- a write that was done passed its table
-  done : (rows : List Row) (after : List ℕ) → wrote written.Done after ≡ judge (unwritten s) rows (wrote written.Done filled) → Silent rows × (after ≡ filled)
+  done : (rows : List Row) (after : List ℕ) → wrote (Ok tt) after ≡ judge (unwritten s) rows (wrote (Ok tt) filled) → Silent rows × (after ≡ filled)
   done rows after e =
-      let found = none (unwritten s) (wrote written.Done filled) rows (wrote written.Done after) (λ m p. given_apart (ap (λ (w : Wrote). w.answer) p)) e in
+      let found = none (unwritten s) (wrote (Ok tt) filled) rows (wrote (Ok tt) after) (λ m p. given_apart (ap (λ (w : Wrote). w.answer) p)) e in
       (found.0, ap (λ (w : Wrote). w.bytes) found.1)
 
   -- the field is there
@@ -46,8 +43,8 @@ module _ (s : List ℕ) (k n : ℕ) where
       le-ltb (length filled) k (omega arith)
 
 -- a field that holds its own number stays
-again : (s : List ℕ) (k n : ℕ) → n ≡ number_at s 0 k → k ≤ length s → Bytes s → wrote written.Done (filled s k n) ≡ wrote written.Done s
-again s k n e h b = ap (λ (t : List ℕ). wrote written.Done t) (ap (filled s k) e ∙ put-number_at s 0 k (omega arith) b)
+again : (s : List ℕ) (k n : ℕ) → n ≡ number_at s 0 k → k ≤ length s → Bytes s → wrote (Ok tt) (filled s k n) ≡ wrote (Ok tt) s
+again s k n e h b = ap (λ (t : List ℕ). wrote (Ok tt) t) (ap (filled s k) e ∙ put-number_at s 0 k (omega arith) b)
 
 -- ---- stamps
 -- a prefix that is one is below 16
@@ -81,7 +78,7 @@ any_stamp_stays s p b e =
 
 -- and the stamp of a reading that passed its table is written as the bytes were
 stamp_written_again : (s : List ℕ) (prefix : ℕ) → Bytes s → Silent (stamp_read_refusals s prefix)
-    → write_stamp s prefix (stamp_of (number_at s 0 5)) ≡ wrote written.Done s
+    → write_stamp s prefix (stamp_of (number_at s 0 5)) ≡ wrote (Ok tt) s
 stamp_written_again s prefix b passed =
     let long = ltb-false (length s) 5 passed.1.0 in
     let inside : is_no_stamp (stamp_of (number_at s 0 5)) ≡ false = lt-leb stamp_turn (stamp_of (number_at s 0 5)) (stamp_of_lt (number_at s 0 5)) in
@@ -101,7 +98,7 @@ reference_read_back s v passed =
 
 -- and the clock reference of a reading that passed its table is written as the bytes were
 reference_written_again : (s : List ℕ) → Bytes s → reserved_of (number_at s 0 6) ≡ 63 → Silent (reference_read_refusals s)
-    → write_reference s (reference_of (number_at s 0 6)) ≡ wrote written.Done s
+    → write_reference s (reference_of (number_at s 0 6)) ≡ wrote (Ok tt) s
 reference_written_again s b ones passed =
     let long = ltb-false (length s) 6 passed.0 in
     let low = ltb-false 299 (extension_of (number_at s 0 6)) passed.1.0 in
@@ -114,18 +111,18 @@ round_trips =
     record {
       stamp_returns = λ s after prefix v r w e.
           let found = done s 5 (stamp_field prefix v.0) (stamp_write_refusals s prefix v.0) after w in
-          outcomes.reads_stamp after prefix r (stamp.Value v) e
+          outcomes.reads_stamp after prefix r (Ok v) e
           (sym (ap (λ (t : List ℕ). read_stamp t prefix) found.1 ∙ stamp_read_back s prefix v.0 found.0));
       stamp_stays = λ s prefix v o b e w.
           let found = given_by (stamp_read_refusals s prefix) (stamp_of (number_at s 0 5)) v.0 (sym e) in
-          outcomes.writes_stamp s prefix v.0 o (written.Done, s) w
+          outcomes.writes_stamp s prefix v.0 o ((Ok tt), s) w
           (sym (ap (write_stamp s prefix) found.1 ∙ stamp_written_again s prefix b found.0));
       reference_returns = λ s after v r w e.
           let found = done s 6 (reference_field v.0) (reference_write_refusals s v.0) after w in
-          outcomes.reads_reference after r (reference.Value v) e
+          outcomes.reads_reference after r (Ok v) e
           (sym (ap read_reference found.1 ∙ reference_read_back s v.0 found.0));
       reference_stays = λ s v o b ones e w.
           let found = given_by (reference_read_refusals s) (reference_of (number_at s 0 6)) v.0 (sym e) in
-          outcomes.writes_reference s v.0 o (written.Done, s) w
+          outcomes.writes_reference s v.0 o ((Ok tt), s) w
           (sym (ap (write_reference s) found.1 ∙ reference_written_again s b ones found.0));
     }

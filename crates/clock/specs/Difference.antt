@@ -4,20 +4,17 @@ use Rattle.ground.specs.Answer.{Answer, refused, given}
 use Rattle.ground.specs.Refusal.{Row, judge, ◌when◌}
 use Rattle.clock.specs.Modulus.{minus_mod}
 use Rattle.clock.specs.Range.{is_no_stamp, is_no_reference, stamp_turn, reference_turn}
-use Rattle.clock.specs.declared.stamp.Apart.{Apart}
-use Rattle.clock.specs.declared.stamp.Apart.TheVariants as apart
-use Rattle.clock.specs.declared.reference.Ahead.{Ahead}
-use Rattle.clock.specs.declared.reference.Ahead.TheVariants as ahead
+use Rattle.std.specs.declared.result.Result.{Result}
+use Rattle.ground.specs.Told.{told}
+use Rattle.ground.specs.declared.Refusal.{Refusal}
 
 -- what a signed difference says in document 01's terms
-abbrev pub told_signed : Apart → Answer ℤ
-told_signed (apart.Signed d) = given d
-told_signed (apart.Refused n) = refused n
+abbrev pub told_signed : Result ℤ Refusal → Answer ℤ
+told_signed = told (λ d. d)
 
 -- the same of a forward difference
-abbrev pub told_forward : Ahead → Answer ℕ
-told_forward (ahead.Ticks d) = given d
-told_forward (ahead.Refused n) = refused n
+abbrev pub told_forward : Result ℕ Refusal → Answer ℕ
+told_forward = told (λ d. d)
 
 -- "A difference: 40", of two stamps
 abbrev pub stamp_difference_refusals : ℕ → ℕ → List Row

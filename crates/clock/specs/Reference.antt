@@ -6,8 +6,10 @@ use Rattle.ground.specs.Refusal.{Row, judge, ◌when◌}
 use Rattle.ground.specs.Write.{put}
 use Rattle.clock.specs.Range.{is_no_reference}
 use Rattle.clock.specs.Written.{Wrote, unwritten}
-use Rattle.clock.specs.declared.reference.Reading.{Reading}
-use Rattle.clock.specs.declared.reference.Reading.TheVariants as reading
+use Rattle.std.specs.declared.result.Result.{Result}
+use Rattle.ground.specs.Told.{told}
+use Rattle.ground.specs.declared.Refusal.{Refusal}
+use Rattle.clock.specs.declared.reference.Reference.{Reference}
 
 -- the field's 48 bits: base 33, reserved 6, extension 9; "Written reserved bits are ones"
 abbrev pub reference_layout : ℕ → List Field
@@ -34,9 +36,8 @@ abbrev pub reference_of : ℕ → ℕ
 reference_of n = clock_base n * 300 + extension_of n
 
 -- what a reading says in document 01's terms
-abbrev pub told_reference : Reading → Answer ℕ
-told_reference (reading.Value v) = given v.0
-told_reference (reading.Refused n) = refused n
+abbrev pub told_reference : Result Reference Refusal → Answer ℕ
+told_reference = told (λ (v : Reference). v.0)
 
 -- "Reading a lone field: 41, 8"
 abbrev pub reference_read_refusals : List ℕ → List Row

@@ -6,10 +6,11 @@ use Rattle.ground.specs.Refusal.{Row, judge, ◌when◌}
 use Rattle.ground.specs.Write.{put}
 use Rattle.clock.specs.Range.{is_no_stamp}
 use Rattle.clock.specs.Written.{Wrote, unwritten}
-use Rattle.clock.specs.declared.stamp.Reading.{Reading}
-use Rattle.clock.specs.declared.stamp.Reading.TheVariants as reading
-use Rattle.clock.specs.declared.stamp.AnyReading.{AnyReading}
-use Rattle.clock.specs.declared.stamp.AnyReading.TheVariants as any_reading
+use Rattle.std.specs.declared.result.Result.{Result}
+use Rattle.ground.specs.Told.{told}
+use Rattle.ground.specs.declared.Refusal.{Refusal}
+use Rattle.clock.specs.declared.stamp.Stamp.{Stamp}
+use Rattle.clock.specs.declared.stamp.AnyStamp.{AnyStamp}
 
 -- the field's 40 bits: prefix 4, stamp[32..30] 3, marker 1, stamp[29..15] 15, marker 1, stamp[14..0] 15, marker 1
 abbrev pub stamp_layout : ℕ → ℕ → List Field
@@ -49,9 +50,8 @@ is_no_prefix prefix = not (nat_le 1 prefix && nat_le prefix 3)
 
 -- ---- a stamp behind the prefix that the caller names
 -- what a reading says in document 01's terms
-abbrev pub told_stamp : Reading → Answer ℕ
-told_stamp (reading.Value v) = given v.0
-told_stamp (reading.Refused n) = refused n
+abbrev pub told_stamp : Result Stamp Refusal → Answer ℕ
+told_stamp = told (λ (v : Stamp). v.0)
 
 -- "Reading a lone field: 40 (prefix), 41, 36"
 abbrev pub stamp_read_refusals : List ℕ → ℕ → List Row
@@ -76,9 +76,8 @@ abbrev pub prefixed_of : ℕ → Prefixed
 prefixed_of n = record { prefix = prefix_of n; stamp = stamp_of n }
 
 -- what such a reading says in document 01's terms
-abbrev pub told_any_stamp : AnyReading → Answer Prefixed
-told_any_stamp (any_reading.Value prefix v) = given (record { prefix = prefix; stamp = v.0 })
-told_any_stamp (any_reading.Refused n) = refused n
+abbrev pub told_any_stamp : Result AnyStamp Refusal → Answer Prefixed
+told_any_stamp = told (λ (v : AnyStamp). record { prefix = v.prefix; stamp = v.stamp.0 })
 
 -- "36 for a marker": no prefix is asked for, so none is wrong
 abbrev pub any_stamp_refusals : List ℕ → List Row

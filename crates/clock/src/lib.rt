@@ -4,10 +4,3 @@
 pub mod reference;
 pub mod stamp;
 pub mod sums;
-
-// What a write answers: the field stands in the lent bytes, or a refusal and no byte written.
-#[derive(Clone, Copy)]
-pub enum Written {
-    Done,
-    Refused(u8),
-}

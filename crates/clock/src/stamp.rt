@@ -4,30 +4,18 @@ ghost use Rattle.ground.specs.Number.{number_at};
 ghost use Rattle.clock.specs.Stamp.{is_no_prefix, prefix_of, lacks_marker, is_unmarked, stamp_of, stamp_field};
 ghost use Rattle.clock.specs.Promises.{ReadsStamp, ReadsAnyStamp, WritesStamp, TellsApart};
 
-use crate::Written;
+use ground::Refusal;
 use octets::number_of_five;
 
 // A count of 90 kHz. A number of 2^33 or above can be made, and every call refuses it.
 #[derive(Clone, Copy)]
 pub struct Stamp(pub u64);
 
-#[derive(Clone, Copy)]
-pub enum Reading {
-    Value(Stamp),
-    Refused(u8),
-}
-
 // A stamp and the four bits before it.
 #[derive(Clone, Copy)]
-pub enum AnyReading {
-    Value { prefix: u8, stamp: Stamp },
-    Refused(u8),
-}
-
-#[derive(Clone, Copy)]
-pub enum Apart {
-    Signed(i64),
-    Refused(u8),
+pub struct AnyStamp {
+    pub prefix: u8,
+    pub stamp: Stamp,
 }
 
 // The turn of a stamp, 2^33, and its half.
@@ -79,37 +67,37 @@ fn field_in(bytes: &[u8]) -> u64
 }
 
 // The stamp whose field begins the bytes, behind the prefix that the caller names.
-pub fn read(bytes: &[u8], prefix: u8) -> Reading
+pub fn read(bytes: &[u8], prefix: u8) -> Result<Stamp, Refusal>
     ensures { ReadsStamp bytes.now prefix result }
 {
     if is_no_prefix(prefix) {
-        return Reading::Refused(40);
+        return Err(Refusal::ClockRange);
     }
     if bytes.len() < 5 {
-        return Reading::Refused(41);
+        return Err(Refusal::FieldTooShort);
     }
     let n = field_in(bytes);
     if is_unmarked(n, prefix) {
-        return Reading::Refused(36);
+        return Err(Refusal::StampBits);
     }
-    Reading::Value(Stamp(value_of(n)))
+    Ok(Stamp(value_of(n)))
 }
 
 // The stamp whose field begins the bytes, behind any four bits, and these bits.
-pub fn read_any(bytes: &[u8]) -> AnyReading
+pub fn read_any(bytes: &[u8]) -> Result<AnyStamp, Refusal>
     ensures { ReadsAnyStamp bytes.now result }
 {
     if bytes.len() < 5 {
-        return AnyReading::Refused(41);
+        return Err(Refusal::FieldTooShort);
     }
     let n = field_in(bytes);
     if lacks_marker(n) {
-        return AnyReading::Refused(36);
+        return Err(Refusal::StampBits);
     }
-    AnyReading::Value {
+    Ok(AnyStamp {
         prefix: prefix_of(n),
         stamp: Stamp(value_of(n)),
-    }
+    })
 }
 
 // The field of a stamp behind a prefix.
@@ -126,40 +114,33 @@ fn field_of(prefix: u8, v: u64) -> u64
 }
 
 // The stamp's field at the start of the bytes, behind the prefix that the caller names.
-pub fn write(bytes: &mut [u8], prefix: u8, stamp: Stamp) -> Written
+pub fn write(bytes: &mut [u8], prefix: u8, stamp: Stamp) -> Result<(), Refusal>
     ensures { WritesStamp bytes.old prefix stamp.0 (result, bytes.new) }
 {
     let v = stamp.0;
     if is_no_prefix(prefix) {
-        return Written::Refused(40);
+        return Err(Refusal::ClockRange);
     }
     if TURN <= v {
-        return Written::Refused(40);
+        return Err(Refusal::ClockRange);
     }
     if bytes.len() < 5 {
-        return Written::Refused(41);
+        return Err(Refusal::FieldTooShort);
     }
     let n = field_of(prefix, v);
-    bytes[0] = (n / 0x1_0000_0000 % 256) as u8;
-    bytes[1] = (n / 0x100_0000 % 256) as u8;
-    bytes[2] = (n / 0x1_0000 % 256) as u8;
-    bytes[3] = (n / 0x100 % 256) as u8;
-    bytes[4] = (n % 256) as u8;
-    Written::Done
+    bytes[..5].copy_from_slice(&n.to_be_bytes()[3..]);
+    Ok(())
 }
 
 // The signed difference a − b, by the shorter way round: 2^33 divides 2^64, so the wrapped subtraction may be reduced.
-pub fn difference(a: Stamp, b: Stamp) -> Apart
+pub fn difference(a: Stamp, b: Stamp) -> Result<i64, Refusal>
     ensures { TellsApart a.0 b.0 result }
 {
     let x = a.0;
     let y = b.0;
-    if TURN <= x {
-        return Apart::Refused(40);
+    if (TURN <= x) | (TURN <= y) {
+        return Err(Refusal::ClockRange);
     }
-    if TURN <= y {
-        return Apart::Refused(40);
-    }
-    let apart = std::num::wrapping_sub_u64(x + HALF, y) % TURN;
-    Apart::Signed((apart as i64) - 0x1_0000_0000)
+    let apart = (x + HALF).wrapping_sub(y) % TURN;
+    Ok((apart as i64) - 0x1_0000_0000)
 }

@@ -2,32 +2,25 @@
 -- Assumes nothing.
 use mathlib.Core.Path.{◌≡◌, refl, ap}
 use Prim.Native.Nat.{ℕ}
-use Rattle.ground.specs.Answer.{Answer, refused, given}
+use Rattle.std.specs.declared.result.Result.{Result}
+use Rattle.ground.specs.declared.Refusal.{Refusal}
+use Rattle.ground.specs.Answer.{refused}
+use Rattle.ground.proofs.Told.{made, back}
+use Rattle.state.specs.declared.After.{After}
 use Rattle.ground.specs.Outcome.{Determined}
 use Rattle.ground.specs.Refusal.{ExactCall}
 use Rattle.ground.proofs.Judged.{exact_call}
 use Rattle.ground.proofs.Outcome.{determined_told}
 use Rattle.state.specs.declared.State.{State}
-use Rattle.close_call.specs.Close.{AfterClose, told_closing, told_closed, close_refusals, close_of}
+use Rattle.close_call.specs.Close.{AfterClose, told_closed, close_refusals, close_of}
 use Rattle.close_call.specs.Promises.{ClosesFilter}
 use Rattle.close_call.specs.Claims.{Claims}
-use Rattle.close_call.specs.declared.Closed.{Closed}
-use Rattle.close_call.specs.declared.Closing.{Closing}
-use Rattle.close_call.specs.declared.Closing.TheVariants as closing
 
-abbrev closing_made : Answer (Unit {0}) → Closing
-closing_made (refused n) = closing.Refused n
-closing_made (given x) = closing.Closed
+abbrev closed_made : AfterClose → After (Result (Unit {0}) Refusal)
+closed_made a = record { state = a.state; answer = made (λ done. done) a.answer }
 
-closing_back : (a : Closing) → closing_made (told_closing a) ≡ a
-closing_back closing.Closed = refl
-closing_back (closing.Refused n) = refl
-
-abbrev closed_made : AfterClose → Closed
-closed_made a = record { state = a.state; answer = closing_made a.answer }
-
-closed_back : (x : Closed) → closed_made (told_closed x) ≡ x
-closed_back x = ap (λ (a : Closing). record { state = x.state; answer = a }) (closing_back x.answer)
+closed_back : (x : After (Result (Unit {0}) Refusal)) → closed_made (told_closed x) ≡ x
+closed_back x = ap (λ (a : Result (Unit {0}) Refusal). record { state = x.state; answer = a }) (back (λ done. done) (λ done. done) (λ done. refl) x.answer)
 
 closes_filter : (s : State) (number : ℕ) → Determined (ClosesFilter s number)
 closes_filter s number = determined_told told_closed closed_made closed_back (close_of s number)

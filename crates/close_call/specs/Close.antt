@@ -1,26 +1,26 @@
 -- Document 01, "Filters and areas": close.
 use Rattle.std.specs.Prelude.{cond, not, List, [], ◌∷◌, ℕ, ◌-◌, leb, eqb, length, get_or, set}
+use Rattle.std.specs.declared.result.Result.{Result}
+use Rattle.ground.specs.declared.Refusal.{Refusal}
+use Rattle.ground.specs.Told.{told}
 use Rattle.ground.specs.Answer.{Answer, refused, given}
 use Rattle.ground.specs.Refusal.{Row, judge, ◌when◌}
 use Rattle.state.specs.State.{place_of, free_area, free_filter}
 use Rattle.state.specs.declared.Area.{Area}
 use Rattle.state.specs.declared.State.{State}
 use Rattle.sound.specs.Sound.{sound}
-use Rattle.close_call.specs.declared.Closed as after
-use Rattle.close_call.specs.declared.Closing.{Closing}
-use Rattle.close_call.specs.declared.Closing.TheVariants as closing
+use Rattle.state.specs.declared.After.{After}
 
 -- what a close says in document 01's terms
-abbrev pub told_closing : Closing → Answer (Unit {0})
-told_closing closing.Closed = given tt
-told_closing (closing.Refused n) = refused n
+abbrev pub told_closing : Result (Unit {0}) Refusal → Answer (Unit {0})
+told_closing r = told (λ done. done) r
 
 -- the answer, and the state after it
 pub record AfterClose : Type 0 where
   pub answer : Answer (Unit {0})
   pub state : State
 
-abbrev pub told_closed : after.Closed → AfterClose
+abbrev pub told_closed : After (Result (Unit {0}) Refusal) → AfterClose
 told_closed o = record { answer = told_closing o.answer; state = o.state }
 
 -- "Close: 1, 16"

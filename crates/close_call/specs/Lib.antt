@@ -1,3 +1,4 @@
 pub mod Close
+pub mod Steps
 pub mod Promises
 pub mod Claims

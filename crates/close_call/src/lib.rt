@@ -3,52 +3,41 @@
 
 ghost use Rattle.std.specs.Prelude.{◌≡◌, ◌<◌, get_or};
 ghost use Rattle.state.specs.State.{free_area};
-ghost use Rattle.close_call.specs.Close.{area_at, without_user, without_filter};
+ghost use Rattle.close_call.specs.Close.{told_closed, close_of, area_at, without_user, without_filter};
+ghost use Rattle.close_call.specs.Steps.{closed_by};
 ghost use Rattle.close_call.specs.Promises.{ClosesFilter};
 
-use gather::Marks;
-use pid::Pid;
+use ground::Refusal;
 use sound::is_sound;
-use state::{Area, Filter, PLACES, State, place_of};
+use state::{After, Area, Filter, State, place_of};
 
-#[derive(Clone, Copy)]
-pub enum Closing {
-    Closed,
-    Refused(u8),
-}
+pub type Closed = After<Result<(), Refusal>>;
 
-#[derive(Clone, Copy)]
-pub struct Closed {
-    pub state: State,
-    pub answer: Closing,
-}
-
-// The filter of a number closed, or the first refusal that applies.
+// The filter of a number closed, or the first refusal that applies. Why `open`, which ends alike, has no function in common with it is said there.
 pub fn close(state: State, number: u16) -> Closed
     ensures { ClosesFilter state number result }
 {
-    if !is_sound(state) {
-        return unclosed(state, 1);
-    }
-    let filters = state.filters;
-    let place = place_of(filters, number);
-    if PLACES <= place {
-        return unclosed(state, 16);
-    }
-    Closed {
-        state: without_filter(state, place),
-        answer: Closing::Closed,
+    match granted(state, number) {
+        Ok(after) => After {
+            state: after,
+            answer: Ok(()),
+        },
+        Err(why) => After {
+            state,
+            answer: Err(why),
+        },
     }
 }
 
-// A refused close: the state as given.
-fn unclosed(state: State, number: u8) -> Closed
-    ensures { result ≡ (record { state = state; answer = Closing.Refused number }) }
+// The state without the filter, or the first refusal that applies.
+fn granted(state: State, number: u16) -> Result<State, Refusal>
+    ensures { told_closed (closed_by state result) ≡ close_of state number }
 {
-    Closed {
-        state,
-        answer: Closing::Refused(number),
+    if !is_sound(state) {
+        return Err(Refusal::UnsoundState);
     }
+    let place = place_of(state.filters, number).ok_or(Refusal::NotOpen)?;
+    Ok(without_filter(state, place))
 }
 
 // The area with one user less; the last one frees it.
@@ -57,24 +46,12 @@ fn without_user(area: Area) -> Area
     ensures { result ≡ without_user area }
 {
     if area.users == 1 {
-        return Area {
-            pid: Pid(0),
-            users: 0,
-            marks: Marks {
-                held_low: 0,
-                held_high: 0,
-                seen: 0,
-                counter: 0,
-                repeated: 0,
-            },
-        };
-    }
-    let pid = area.pid;
-    let marks = area.marks;
-    Area {
-        pid,
-        users: area.users - 1,
-        marks,
+        Area::FREE
+    } else {
+        Area {
+            users: area.users - 1,
+            ..area
+        }
     }
 }
 
@@ -87,11 +64,12 @@ fn without_filter(state: State, place: usize) -> State
     let mut filters = state.filters;
     let mut choices = state.choices;
     let filter = filters[place];
-    let area = filter.area as usize;
+    let area = usize::from(filter.area);
     let own = areas[area];
     areas[area] = without_user(own);
-    filters[place] = Filter { number: 0, area: 0 };
+    filters[place] = Filter::FREE;
     choices[place] = 0;
+    // list by list: the compiler copies each without a call
     State {
         areas,
         filters,

@@ -3,21 +3,25 @@
 use mathlib.Core.Path.{◌≡◌, refl, sym, ◌∙◌, ap, ap₂}
 use mathlib.Core.Bool.{Bool, true, cond}
 use mathlib.Core.List.{List, [], ◌∷◌, ◌++◌}
-use Prim.Native.Nat.{ℕ, suc, ◌+◌, ◌-◌, ◌*◌, ◌%◌, ◌^◌, ◌<◌, ◌≤◌}
+use Prim.Native.Nat.{ℕ, zero, suc, ◌+◌, ◌-◌, ◌*◌, ◌%◌, ◌^◌, ◌<◌, ◌≤◌}
 use native.Mathlib.Nat.{add-zero, mod-eq_of_lt, mul-le-mul_left}
 use native.Mathlib.Omega.{arith}
 use borrow.Author.Tests.{eqb-true}
 use lib.Dec.{eqb}
-use lib.ListN.{length, get_or, drop, replicate}
-use lib.Seq.{drop-cons}
+use lib.ListN.{length, get_or, take, drop, replicate, take-append-drop}
+use lib.Seq.{drop-cons, drop-drop}
 use lib.Pow.{pow_mono}
-use lib.Bits.{bit_xor, xor_comm, xor_zero_r}
-use Rattle.crc.specs.Figure.{msb_first, residue_of}
+use lib.Bits.{bit_xor, xor_comm, xor_zero_r, xor_shifted}
+use mir.Syntax.{w32}
+use Rattle.std.specs.Int.{from_be_bytes}
+use Rattle.std.specs.Simd.{first_chunks}
+use Rattle.crc.specs.Figure.{msb_first}
 use Rattle.crc_table.specs.Table.{shift_of, shifts}
-use Rattle.crc.specs.Steps.{enter_bits, enter_bytes, Enters, in_place}
+use Rattle.crc.specs.Steps.{enter_bits, enter_bytes, Begins, Enters, in_place}
 use Rattle.ground.specs.Number.{Bytes}
 use Rattle.ground.proofs.Entries.{every_entry, entry_at}
 use Rattle.ground.proofs.Xor.{xor_assoc}
+use Rattle.crc.proofs.Bridge.{residue_enter}
 use Rattle.crc_table.proofs.Linear.{shift_xor, shifts_xor, shifts_add, shifts_top}
 
 -- bits go in: their own share, and the share of what the register held
@@ -79,11 +83,11 @@ bytes_later (b ∷ bs) j v own h =
 drop_next : (bytes : List ℕ) (i k : ℕ) → suc i ≡ k → i < length bytes → drop i bytes ≡ get_or bytes i 0 ∷ drop k bytes
 drop_next bytes i k e h = drop-cons bytes i 0 h ∙ ap (λ (x : ℕ). get_or bytes i 0 ∷ drop x bytes) e
 
--- one turn over the first n bytes: the byte at i is added at its place
-pub first_turn : (bytes : List ℕ) (n i v : ℕ) → n < 4 → i < n → n ≤ length bytes → get_or bytes i 0 < 256
-    → residue_of bytes ≡ enter_bytes (shifts (8 * (4 - n + i)) v) (drop i bytes)
-    → residue_of bytes ≡ enter_bytes (shifts (8 * (4 - n + (i + 1))) (bit_xor v (get_or bytes i 0 * 2 ^ (8 * (n - 1 - i)) % 2 ^ 32))) (drop (i + 1) bytes)
-first_turn bytes n i v hn hi h hb e =
+-- one turn over the n bytes that go in first: the byte at i is added at its place
+pub first_turn : (bytes : List ℕ) (n i v end : ℕ) → n < 4 → i < n → n ≡ length bytes → get_or bytes i 0 < 256
+    → end ≡ enter_bytes (shifts (8 * (4 - n + i)) v) (drop i bytes)
+    → end ≡ enter_bytes (shifts (8 * (4 - n + (i + 1))) (bit_xor v (get_or bytes i 0 * 2 ^ (8 * (n - 1 - i)) % 2 ^ 32))) (drop (i + 1) bytes)
+first_turn bytes n i v end hn hi h hb e =
     let j = 4 - n + i in
     let b = get_or bytes i 0 in
     let up = 24 - 8 * j in
@@ -97,6 +101,19 @@ first_turn bytes n i v hn hi h hb e =
     ∙ ap (λ (x : ℕ). shifts (8 * suc j) (bit_xor v x)) (sym (mod-eq_of_lt fits))
     ∙ ap₂ (λ (x y : ℕ). shifts x (bit_xor v (b * 2 ^ y % 2 ^ 32))) on place)
 
+-- bytes go in one after the other
+enter_append : (a b : List ℕ) (v : ℕ) → enter_bytes v (a ++ b) ≡ enter_bytes (enter_bytes v a) b
+enter_append [] b v = refl
+enter_append (x ∷ xs) b v = enter_append xs b (enter_bits v (msb_first 8 x))
+
+-- with the first n bytes in it the register is at the others
+pub begins : (bytes : List ℕ) (n v : ℕ) → Begins (take n bytes) v → Enters bytes n v
+begins bytes n v e =
+    residue_enter bytes
+    ∙ ap (enter_bytes 0xFFFFFFFF) (sym (take-append-drop n bytes))
+    ∙ enter_append (take n bytes) (drop n bytes) 0xFFFFFFFF
+    ∙ ap (λ (x : ℕ). enter_bytes x (drop n bytes)) e
+
 -- the four bytes from i on
 abbrev pub four_at : List ℕ → ℕ → List ℕ
 four_at bytes i = get_or bytes i 0 ∷ get_or bytes (i + 1) 0 ∷ get_or bytes (i + 2) 0 ∷ get_or bytes (i + 3) 0 ∷ []
@@ -108,12 +125,39 @@ four_drop bytes i h =
     ∙ ap (λ (l : List ℕ). get_or bytes (i + 1) 0 ∷ l) (drop_next bytes (i + 2) (i + 3) (omega arith) (omega arith)
     ∙ ap (λ (l : List ℕ). get_or bytes (i + 2) 0 ∷ l) (drop_next bytes (i + 3) (i + 4) (omega arith) (omega arith))))
 
+-- group k of the others
+group : (count k : ℕ) (xs : List ℕ) → k < count → get_or (first_chunks 4 count xs) k [] ≡ take 4 (drop (4 * k) xs)
+group zero k xs h = absurd (omega arith)
+group (suc count) zero xs h = refl
+group (suc count) (suc k) xs h =
+    let n : 4 + 4 * k ≡ 4 * suc k = omega arith in
+    group count k (drop 4 xs) (omega arith) ∙ ap (take 4) (drop-drop (4 * k) 4 xs ∙ ap (λ (x : ℕ). drop x xs) n)
+
+pub group_is : (bytes : List ℕ) (n count k : ℕ) → k < count → n + 4 * count ≤ length bytes
+    → get_or (first_chunks 4 count (drop n bytes)) k [] ≡ four_at bytes (n + 4 * k)
+group_is bytes n count k h l =
+    group count k (drop n bytes) h
+    ∙ ap (take 4) (drop-drop (4 * k) n bytes ∙ four_drop bytes (n + 4 * k) (omega arith))
+
+-- four bytes as a number stand at their places
+word_is : (a b c d : ℕ) → Bytes (a ∷ b ∷ c ∷ d ∷ []) → from_be_bytes w32 (a ∷ b ∷ c ∷ d ∷ []) ≡ in_place 0 (a ∷ b ∷ c ∷ d ∷ [])
+word_is a b c d own =
+    let ha = own.0 in
+    let hb = own.1.0 in
+    let hc = own.1.1.0 in
+    let hd = own.1.1.1.0 in
+    let low = xor_zero_r (d * 2 ^ 0) in
+    let two = ap (bit_xor (c * 2 ^ 8)) low ∙ xor_shifted c 8 (d * 2 ^ 0) (omega arith) in
+    let three = ap (bit_xor (b * 2 ^ 16)) two ∙ xor_shifted b 16 (c * 2 ^ 8 + d * 2 ^ 0) (omega arith) in
+    let four = ap (bit_xor (a * 2 ^ 24)) three ∙ xor_shifted a 24 (b * 2 ^ 16 + (c * 2 ^ 8 + d * 2 ^ 0)) (omega arith) in
+    omega arith ∙ sym four
+
 -- one turn over the others: the register has gone through, and the four bytes from i on are added to it
 pub loop_turn : (bytes : List ℕ) (i v r w : ℕ) → i + 4 ≤ length bytes → Bytes (four_at bytes i)
-    → r ≡ shifts 32 v → w ≡ in_place 0 (four_at bytes i) → Enters bytes i v → Enters bytes (i + 4) (bit_xor r w)
+    → r ≡ shifts 32 v → w ≡ from_be_bytes w32 (four_at bytes i) → Enters bytes i v → Enters bytes (i + 4) (bit_xor r w)
 loop_turn bytes i v r w h own through added e =
     e
     ∙ ap (enter_bytes (shifts 32 v)) (four_drop bytes i h)
     ∙ ap (λ (x : ℕ). enter_bytes x (drop (i + 4) bytes))
     (bytes_later (four_at bytes i) 0 (shifts 32 v) own (omega arith)
-    ∙ ap₂ (λ (x y : ℕ). shifts 32 (bit_xor x y)) (sym through) (sym added))
+    ∙ ap₂ (λ (x y : ℕ). shifts 32 (bit_xor x y)) (sym through) (sym (added ∙ word_is _ _ _ _ own)))

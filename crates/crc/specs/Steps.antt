@@ -18,6 +18,10 @@ enter_bytes v (b ∷ bs) = enter_bytes (enter_bits v (msb_first 8 b)) bs
 abbrev pub Starts : ℕ → ℕ → Type 0
 Starts n r = shifts (8 * (4 - n)) r ≡ 0xFFFFFFFF
 
+-- a register that after 32 shifts is as the bytes leave it
+abbrev pub Begins : List ℕ → ℕ → Type 0
+Begins bytes r = enter_bytes 0xFFFFFFFF bytes ≡ shifts 32 r
+
 -- a register that after 32 shifts is as the first n bytes leave it: with the others it ends at the residue
 abbrev pub Enters : List ℕ → ℕ → ℕ → Type 0
 Enters bytes n r = residue_of bytes ≡ enter_bytes (shifts 32 r) (drop n bytes)

@@ -1,4 +1,3 @@
 pub mod Table
 pub mod Promises
 pub mod Claims
-pub mod Steps

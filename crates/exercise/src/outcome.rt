@@ -1,139 +1,169 @@
-// The pieces that outcomes are made of.
-ghost use Rattle.std.specs.Prelude.{◌<◌};
+// How outcomes are written, each piece behind a space.
+use clock::reference::Reference;
+use clock::stamp::Stamp;
+use ground::Refusal;
+use pid::Pid;
+use text::Text;
 
-// A space and a word.
-pub(crate) fn word(text: &mut [u8], at: usize, letters: &[u8]) -> usize {
-    let end = text::byte(text, at, b' ');
-    text::word(text, end, letters)
+// What an outcome tells. Each width of numbers has an impl of its own: one over all of `Into<u64>` could overlap with those of the structs, and none may be written by a macro.
+// No `Display`: an outcome has one format (docs/EXERCISE.md), and bytes are lent for it.
+pub(crate) trait Tell {
+    fn tell(self, text: &mut Text<'_>);
 }
 
-// A space and a number.
-pub(crate) fn number(text: &mut [u8], at: usize, n: u64) -> usize {
-    let end = text::byte(text, at, b' ');
-    text::decimal(text, end, n)
-}
-
-// A space and a signed number.
-pub(crate) fn signed(text: &mut [u8], at: usize, n: i64) -> usize {
-    if n < 0 {
-        let end = word(text, at, b"-");
-        return text::decimal(text, end, below_zero(n));
+impl Tell for u64 {
+    fn tell(self, text: &mut Text<'_>) {
+        text.byte(b' ');
+        text.decimal(self);
     }
-    number(text, at, n as u64)
 }
 
-// How far a number from -2^32 on is below 0.
-fn below_zero(n: i64) -> u64 {
-    if n < -4_294_967_296 {
-        return 0;
+impl Tell for u32 {
+    fn tell(self, text: &mut Text<'_>) {
+        u64::from(self).tell(text);
     }
-    if n < 0 {
-        return (0 - n) as u64;
-    }
-    0
 }
 
-// A space and two numbers with a colon between them.
-pub(crate) fn pair(text: &mut [u8], at: usize, a: u64, b: u64) -> usize {
-    let mut end = number(text, at, a);
-    end = text::byte(text, end, b':');
-    text::decimal(text, end, b)
+impl Tell for u16 {
+    fn tell(self, text: &mut Text<'_>) {
+        u64::from(self).tell(text);
+    }
 }
 
-// Numbers, each behind a space.
-pub(crate) fn numbers(text: &mut [u8], at: usize, numbers: &[u64]) -> usize {
-    let mut end = at;
-    let mut i: usize = 0;
-    while i < numbers.len() {
-        end = number(text, end, numbers[i]);
-        i += 1;
+impl Tell for u8 {
+    fn tell(self, text: &mut Text<'_>) {
+        u64::from(self).tell(text);
     }
-    end
 }
 
-// Sets, each behind a space.
-pub(crate) fn sets(text: &mut [u8], at: usize, sets: &[u32]) -> usize {
-    let mut end = at;
-    let mut i: usize = 0;
-    while i < sets.len() {
-        end = number(text, end, sets[i] as u64);
-        i += 1;
+impl Tell for usize {
+    fn tell(self, text: &mut Text<'_>) {
+        (self as u64).tell(text);
     }
-    end
+}
+
+impl Tell for i64 {
+    fn tell(self, text: &mut Text<'_>) {
+        if self < 0 {
+            word(text, b"-");
+            text.decimal(self.unsigned_abs());
+        } else {
+            self.unsigned_abs().tell(text);
+        }
+    }
 }
 
 // Yes is 1 and no is 0.
-pub(crate) fn yes(is_so: bool) -> u64 {
-    if is_so {
-        return 1;
+impl Tell for bool {
+    fn tell(self, text: &mut Text<'_>) {
+        u64::from(self).tell(text);
     }
-    0
 }
 
-// What is missing.
-pub(crate) fn missing(text: &mut [u8], at: usize) -> usize {
-    word(text, at, b"-")
-}
-
-// A refusal behind the line's word.
-pub(crate) fn refused(text: &mut [u8], at: usize, n: u8) -> usize {
-    let end = word(text, at, b"refused");
-    number(text, end, n as u64)
-}
-
-// Bytes in hexadecimal digits behind a space and an equals sign.
-pub(crate) fn bytes(text: &mut [u8], at: usize, bytes: &[u8]) -> usize {
-    let mut end = word(text, at, b"=");
-    let mut i: usize = 0;
-    while i < bytes.len() {
-        end = hex(text, end, bytes[i]);
-        i += 1;
+impl Tell for Pid {
+    fn tell(self, text: &mut Text<'_>) {
+        self.0.tell(text);
     }
-    end
 }
 
-// A byte in two digits.
-fn hex(text: &mut [u8], at: usize, b: u8) -> usize {
-    let end = text::byte(text, at, digit(b / 16));
-    text::byte(text, end, digit(b))
-}
-
-// The digit of a byte's lower half.
-fn digit(b: u8) -> u8 {
-    let n = b % 16;
-    if n < 10 {
-        return b'0' + n;
+impl Tell for Stamp {
+    fn tell(self, text: &mut Text<'_>) {
+        self.0.tell(text);
     }
-    b'a' - 10 + n
 }
 
-// A digest with a further byte.
-fn digested(d: u64, b: u8) -> u64
-    requires { d < 4294967291 }
-    ensures { result < 4294967291 }
-{
-    (d * 65_599 + (b as u64)) % 4_294_967_291
-}
-
-// The digest of some bytes.
-pub(crate) fn digest(bytes: &[u8]) -> u64 {
-    let mut d: u64 = 1;
-    let mut i: usize = 0;
-    while i < bytes.len() {
-        d = digested(d, bytes[i]);
-        i += 1;
+impl Tell for Reference {
+    fn tell(self, text: &mut Text<'_>) {
+        self.0.tell(text);
     }
-    d
 }
 
-// The digest of some numbers, each as its two bytes.
-pub(crate) fn digest_of_numbers(numbers: &[u16]) -> u64 {
-    let mut d: u64 = 1;
-    let mut i: usize = 0;
-    while i < numbers.len() {
-        let n = numbers[i];
-        d = digested(digested(d, (n / 256) as u8), (n % 256) as u8);
-        i += 1;
+// What is missing is a dash.
+impl<T: Tell> Tell for Option<T> {
+    fn tell(self, text: &mut Text<'_>) {
+        match self {
+            Some(value) => value.tell(text),
+            None => word(text, b"-"),
+        }
     }
-    d
+}
+
+impl<T: Tell> Tell for Result<T, Refusal> {
+    fn tell(self, text: &mut Text<'_>) {
+        match self {
+            Ok(value) => value.tell(text),
+            Err(why) => why.tell(text),
+        }
+    }
+}
+
+impl Tell for Refusal {
+    fn tell(self, text: &mut Text<'_>) {
+        word(text, b"refused");
+        self.number().tell(text);
+    }
+}
+
+impl<T: Tell + Copy> Tell for &[T] {
+    fn tell(self, text: &mut Text<'_>) {
+        for value in self {
+            (*value).tell(text);
+        }
+    }
+}
+
+// A word.
+pub(crate) fn word(text: &mut Text<'_>, letters: &[u8]) {
+    text.byte(b' ');
+    text.word(letters);
+}
+
+// Two numbers with a colon between them.
+pub(crate) fn pair(text: &mut Text<'_>, a: u64, b: u64) {
+    a.tell(text);
+    text.byte(b':');
+    text.decimal(b);
+}
+
+// Bytes in hexadecimal digits behind an equals sign.
+pub(crate) fn bytes(text: &mut Text<'_>, bytes: &[u8]) {
+    word(text, b"=");
+    for b in bytes {
+        text.byte(digit(*b / 16));
+        text.byte(digit(*b % 16));
+    }
+}
+
+// The digit of a half of a byte.
+fn digit(half: u8) -> u8 {
+    match half {
+        0..=9 => b'0' + half,
+        10..=15 => b'a' - 10 + half,
+        _ => b'-',
+    }
+}
+
+// What a digest takes in.
+pub(crate) trait Digested: Copy {
+    // The digest with this behind it.
+    fn behind(self, digest: u32) -> u32;
+}
+
+impl Digested for u8 {
+    fn behind(self, digest: u32) -> u32 {
+        ((u64::from(digest) * 65_599 + u64::from(self)) % 4_294_967_291) as u32
+    }
+}
+
+// As its two bytes.
+impl Digested for u16 {
+    fn behind(self, digest: u32) -> u32 {
+        let [high, low] = self.to_be_bytes();
+        low.behind(high.behind(digest))
+    }
+}
+
+// The digest of bytes or of numbers.
+pub(crate) fn digest<T: Digested>(items: &[T]) -> u32 {
+    items.iter().fold(1, |digest, item| item.behind(digest))
 }

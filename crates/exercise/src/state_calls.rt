@@ -1,222 +1,187 @@
 // The lines about a driver: its state, its buffers and its list, open, close and the packet call.
-use crate::buffers::{List, Output, Store, changed, changed_sets, first_mut, first_sets};
-use crate::line::{Line, eight_bits, sixteen_bits, thirty_two_bits};
-use crate::records::print_state;
-use crate::{buffers, lone_calls, outcome, records};
-use driver::{Choice, Closing, Handled, Handling, Opening, Report, State};
+use crate::buffer_calls::{Row, new_row};
+use crate::buffers::{changed, first_of, put, put_set};
+use crate::line::Form;
+use crate::outcome::{Tell, digest, word};
+use crate::records::{area_of, print_state, put_area, put_place};
+use crate::{buffer_calls, lone_calls};
+use driver::{Choice, Opening, Report, State};
 use pid::Pid;
+use text::Text;
 
-// The state and the end of the text after a line.
-#[derive(Clone, Copy)]
-pub(crate) struct After {
-    pub(crate) state: State,
-    pub(crate) at: usize,
-}
-
-// The outcome of a line. Bytes go to a buffer by the call that writes text, which stays within it.
-pub(crate) fn answer(
-    line: Line,
+// What is kept from line to line: the state, what is lent to packet calls, and the row of records.
+#[derive(Drop)]
+pub(crate) struct Kept {
     state: State,
-    bytes: &mut [u8],
-    store: &mut Store,
-    out: &mut Output,
-    list: &mut List,
-    text: &mut [u8],
-    at: usize,
-) -> After {
-    if line.is(b"packet", 3, true) & buffers::are_sizes(line) {
-        return packet(line, state, bytes, store, out, list, text, at);
-    }
-    if line.is(b"store", 1, true) & buffers::fits(line, 40960) {
-        text::word(store, place(line), text::first(bytes, line.size));
-        let end = text::word(text, at, b"store");
-        return After { state, at: end };
-    }
-    if line.is(b"output", 1, true) & buffers::fits(line, 8192) {
-        text::word(out, place(line), text::first(bytes, line.size));
-        let end = text::word(text, at, b"output");
-        return After { state, at: end };
-    }
-    if line.is(b"list", 2, false) & line.within(127, 0xFFFF_FFFF) {
-        buffers::put_set(list, line);
-        let end = text::word(text, at, b"list");
-        return After { state, at: end };
-    }
-    if line.is(b"digest", 0, false) {
-        let end = digests(store, out, text, at);
-        return After { state, at: end };
-    }
-    on_state(line, state, bytes, text, at)
+    store: [u8; 40960],
+    out: [u8; 8192],
+    list: [u32; 128],
+    row: Row,
 }
 
-// The place from which a line writes.
-fn place(line: Line) -> usize {
-    let n = line.numbers;
-    n[0] as usize
-}
+impl Kept {
+    // What there is at the start.
+    pub(crate) fn new() -> Kept {
+        Kept {
+            state: driver::fresh(),
+            store: [0; 40960],
+            out: [0; 8192],
+            list: [0; 128],
+            row: new_row(),
+        }
+    }
 
-// The digests of both buffers.
-fn digests(store: &[u8], out: &[u8], text: &mut [u8], at: usize) -> usize {
-    let end = text::word(text, at, b"digest");
-    let row = [outcome::digest(store), outcome::digest(out)];
-    outcome::numbers(text, end, &row)
-}
+    // The outcome of a line; none of one that is not known, or of which a number is out of its range.
+    pub(crate) fn answer(&mut self, form: Form<'_>, text: &mut Text<'_>) -> Option<()> {
+        match (form.word, form.numbers, form.bytes) {
+            (b"packet", &[store, out, list], Some(bytes)) => {
+                self.packet(store, out, list, bytes, text)?;
+            }
+            (b"store", &[place], Some(bytes)) => {
+                put(&mut self.store, place, bytes)?;
+                text.word(b"store");
+            }
+            (b"output", &[place], Some(bytes)) => {
+                put(&mut self.out, place, bytes)?;
+                text.word(b"output");
+            }
+            (b"list", &[place, set], None) => {
+                put_set(&mut self.list, place, set)?;
+                text.word(b"list");
+            }
+            (b"digest", &[], None) => {
+                text.word(b"digest");
+                digest(&self.store).tell(text);
+                digest(&self.out).tell(text);
+            }
+            _ => self.answer_on_state(form, text)?,
+        }
+        Some(())
+    }
 
-// The lines that need the state alone, and then those that need none of what is kept.
-fn on_state(line: Line, state: State, bytes: &mut [u8], text: &mut [u8], at: usize) -> After {
-    if line.is(b"open", 2, false) & line.within(65535, 256) {
-        return open(line, state, text, at);
+    // The lines that need the state alone, and then those that need none of what is kept or the row alone.
+    fn answer_on_state(&mut self, form: Form<'_>, text: &mut Text<'_>) -> Option<()> {
+        match (form.word, form.numbers, form.bytes) {
+            (b"open", &[pid, table], None) => open(&mut self.state, pid, table, text)?,
+            (b"close", &[number], None) => close(&mut self.state, number, text)?,
+            (b"fresh", &[], None) => {
+                self.state = driver::fresh();
+                text.word(b"fresh");
+                print_state(text, &self.state);
+            }
+            (b"area", &[i, pid, users, held, seen, counter, repeated], None) => {
+                let area = area_of([pid, users, held, seen, counter, repeated])?;
+                put_area(&mut self.state, i, area)?;
+                text.word(b"area");
+            }
+            (b"place", &[i, number, area, table], None) => {
+                put_place(&mut self.state, i, number, area, table)?;
+                text.word(b"place");
+            }
+            (b"next", &[next], None) => {
+                self.state.next = u32::try_from(next).ok()?;
+                text.word(b"next");
+            }
+            (b"clear" | b"arrive" | b"judge", ..) => {
+                buffer_calls::answer(form, &mut self.row, text)?;
+            }
+            _ => lone_calls::answer(form, text)?,
+        }
+        Some(())
     }
-    if line.is(b"close", 1, false) & line.within(65535, 0) {
-        return close(line, state, text, at);
+
+    // The packet call's line: what it answered, what it changed in the buffers and in the list, and the state.
+    fn packet(
+        &mut self,
+        lent: u64,
+        lent_out: u64,
+        places: u64,
+        bytes: &[u8],
+        text: &mut Text<'_>,
+    ) -> Option<()> {
+        if (40960 < lent) | (8192 < lent_out) | (128 < places) {
+            return None;
+        }
+        let mut store = self.store;
+        let mut out = self.out;
+        let mut list = self.list;
+        let handled = driver::packet(
+            self.state,
+            bytes,
+            first_of(&mut store, lent),
+            first_of(&mut out, lent_out),
+            first_of(&mut list, places),
+        );
+        text.word(b"packet");
+        match handled.answer {
+            Ok(None) => word(text, b"unwanted"),
+            Ok(Some(report)) => report.tell(text),
+            Err(why) => why.tell(text),
+        }
+        let stored = changed(text, b"store", &store, &self.store);
+        stored.map(digest).tell(text);
+        let put_out = changed(text, b"output", &out, &self.out);
+        put_out.map(digest).tell(text);
+        changed(text, b"sets", &list, &self.list).tell(text);
+        self.state = handled.state;
+        self.store = store;
+        self.out = out;
+        self.list = list;
+        print_state(text, &self.state);
+        Some(())
     }
-    if line.is(b"fresh", 0, false) {
-        let state = driver::fresh();
-        let end = text::word(text, at, b"fresh");
-        let end = print_state(text, end, state);
-        return After { state, at: end };
-    }
-    let numbers = line.numbers;
-    if line.is(b"area", 7, false) & records::is_area(line) {
-        let end = text::word(text, at, b"area");
-        return After {
-            state: records::with_area(state, numbers),
-            at: end,
-        };
-    }
-    if line.is(b"place", 4, false) & records::is_place(line) {
-        let end = text::word(text, at, b"place");
-        return After {
-            state: records::with_place(state, numbers),
-            at: end,
-        };
-    }
-    if line.is(b"next", 1, false) & line.within(0xFFFF_FFFF, 0) {
-        let mut state = state;
-        state.next = thirty_two_bits(numbers[0]);
-        let end = text::word(text, at, b"next");
-        return After { state, at: end };
-    }
-    let end = lone_calls::answer(line, bytes, text, at);
-    After { state, at: end }
 }
 
 // A filter opened.
-fn open(line: Line, state: State, text: &mut [u8], at: usize) -> After {
-    let n = line.numbers;
-    let opened = driver::open(state, Pid(sixteen_bits(n[0])), choice(n[1]));
-    let answer = opened.answer;
-    let state = opened.state;
-    let mut end = text::word(text, at, b"open");
-    end = opening(answer, text, end);
-    end = print_state(text, end, state);
-    After { state, at: end }
+fn open(state: &mut State, pid: u64, table: u64, text: &mut Text<'_>) -> Option<()> {
+    let opened = driver::open(*state, Pid(u16::try_from(pid).ok()?), choice(table)?);
+    *state = opened.state;
+    text.word(b"open");
+    opened.answer.tell(text);
+    print_state(text, state);
+    Some(())
 }
 
-// The choice of an open: a table_id where the number is a byte, and all where it is not.
-fn choice(table: u64) -> Choice {
-    if table < 256 {
-        return Choice::One(eight_bits(table));
+// The choice of an open: a table_id where the number is a byte, and all where it is 256.
+// A script's number, which no other code reads, so there is no `From`.
+fn choice(table: u64) -> Option<Choice> {
+    match table {
+        0..=255 => Some(Choice::One(table as u8)),
+        256 => Some(Choice::All),
+        _ => None,
     }
-    Choice::All
 }
 
-// What an open answered.
-fn opening(answer: Opening, text: &mut [u8], at: usize) -> usize {
-    match answer {
-        Opening::Refused(n) => outcome::refused(text, at, n),
-        Opening::Open { number, place } => {
-            let row = [number as u64, place as u64];
-            let end = outcome::word(text, at, b"given");
-            outcome::numbers(text, end, &row)
-        }
+impl Tell for Opening {
+    fn tell(self, text: &mut Text<'_>) {
+        word(text, b"given");
+        self.number.tell(text);
+        self.place.tell(text);
     }
 }
 
 // A filter closed.
-fn close(line: Line, state: State, text: &mut [u8], at: usize) -> After {
-    let n = line.numbers;
-    let closed = driver::close(state, sixteen_bits(n[0]));
-    let answer = closed.answer;
-    let state = closed.state;
-    let mut end = text::word(text, at, b"close");
-    end = closing(answer, text, end);
-    end = print_state(text, end, state);
-    After { state, at: end }
-}
-
-// What a close answered.
-fn closing(answer: Closing, text: &mut [u8], at: usize) -> usize {
-    match answer {
-        Closing::Refused(n) => outcome::refused(text, at, n),
-        Closing::Closed => outcome::word(text, at, b"closed"),
+fn close(state: &mut State, number: u64, text: &mut Text<'_>) -> Option<()> {
+    let closed = driver::close(*state, u16::try_from(number).ok()?);
+    *state = closed.state;
+    text.word(b"close");
+    match closed.answer {
+        Ok(()) => word(text, b"closed"),
+        Err(why) => why.tell(text),
     }
-}
-
-// The packet call itself.
-fn handle(
-    line: Line,
-    state: State,
-    bytes: &[u8],
-    store: &mut [u8],
-    out: &mut [u8],
-    list: &mut [u32],
-) -> Handled {
-    let n = line.numbers;
-    driver::packet(
-        state,
-        text::first(bytes, line.size),
-        first_mut(store, n[0] as usize),
-        first_mut(out, n[1] as usize),
-        first_sets(list, n[2] as usize),
-    )
-}
-
-// The packet call's line: what it answered, what it changed in the buffers and in the list, and the state.
-fn packet(
-    line: Line,
-    state: State,
-    bytes: &[u8],
-    store: &mut Store,
-    out: &mut Output,
-    list: &mut List,
-    text: &mut [u8],
-    at: usize,
-) -> After {
-    let old_store = *store;
-    let old_out = *out;
-    let old_list = *list;
-    let handled = handle(line, state, bytes, store, out, list);
-    let answer = handled.answer;
-    let state = handled.state;
-    let mut end = text::word(text, at, b"packet");
-    end = handling(answer, text, end);
-    end = changed(text, end, b"store", store, &old_store);
-    end = changed(text, end, b"output", out, &old_out);
-    end = changed_sets(text, end, list, &old_list);
-    end = print_state(text, end, state);
-    After { state, at: end }
-}
-
-// What a packet call answered.
-fn handling(answer: Handling, text: &mut [u8], at: usize) -> usize {
-    match answer {
-        Handling::Refused(n) => outcome::refused(text, at, n),
-        Handling::NotWanted => outcome::word(text, at, b"unwanted"),
-        Handling::Wanted(report) => wanted(report, text, at),
-    }
+    print_state(text, state);
+    Some(())
 }
 
 // What a wanted packet brought.
-fn wanted(report: Report, text: &mut [u8], at: usize) -> usize {
-    let end = outcome::word(text, at, b"wanted");
-    let row = [
-        report.sections as u64,
-        report.bytes as u64,
-        outcome::yes(report.jump),
-        outcome::yes(report.repeat),
-        report.given_up as u64,
-        report.begun as u64,
-    ];
-    outcome::numbers(text, end, &row)
+impl Tell for Report {
+    fn tell(self, text: &mut Text<'_>) {
+        word(text, b"wanted");
+        self.sections.tell(text);
+        self.bytes.tell(text);
+        self.jump.tell(text);
+        self.repeat.tell(text);
+        self.given_up.tell(text);
+        self.begun.tell(text);
+    }
 }

@@ -1,239 +1,194 @@
 // The lines about sections of tables.
-use crate::line::{Line, Values, sixteen_bits};
-use crate::{buffers, outcome};
-use tables::{Head, PatEntry, PatHeader, PmtDescriptor, PmtEntry, PmtHeader, PmtListed};
+use crate::buffers::first_of;
+use crate::line::Form;
+use crate::outcome::{Tell, digest, word};
+use ground::Refusal;
+use tables::{Head, PatHeader, Place, PmtHeader, PmtListed, Program, Stream};
+use text::Text;
 
-// The outcome of a line; one that no other part knows is bad.
-pub(crate) fn answer(line: Line, bytes: &[u8], text: &mut [u8], at: usize) -> usize {
-    let n = line.numbers;
-    let first = sixteen_bits(n[0]);
-    let second = sixteen_bits(n[1]);
-    if line.is(b"crc", 0, true) {
-        return crc(bytes, text, at);
+// What is lent to calls that write a whole table: each place holds a mark.
+const MARKED: [u16; 256] = [43_690; 256];
+
+const MARKED_BYTES: [u8; 256] = [170; 256];
+
+// The outcome of a line; none of one that is not known, or of which a number is out of its range.
+pub(crate) fn answer(form: Form<'_>, text: &mut Text<'_>) -> Option<()> {
+    match (form.word, form.numbers, form.bytes) {
+        (b"crc", &[], Some(bytes)) => crc(bytes, text),
+        (b"pat", &[], Some(bytes)) => {
+            text.word(b"pat");
+            tables::pat_header(bytes).tell(text);
+        }
+        (b"programs", &[programs, pids], Some(bytes)) => {
+            programs_of(bytes, [programs, pids], text)?;
+        }
+        (b"patitem", &[index], Some(bytes)) => {
+            let index = u16::try_from(index).ok()?;
+            text.word(b"patitem");
+            tables::pat_entry(bytes, index).tell(text);
+        }
+        _ => answer_on_pmt(form, text)?,
     }
-    if line.is(b"pat", 0, true) {
-        return pat(bytes, text, at);
+    Some(())
+}
+
+// The lines about PMTs and their descriptors.
+fn answer_on_pmt(form: Form<'_>, text: &mut Text<'_>) -> Option<()> {
+    match (form.word, form.numbers, form.bytes) {
+        (b"pmt", &[], Some(bytes)) => {
+            text.word(b"pmt");
+            tables::pmt_header(bytes).tell(text);
+        }
+        (b"streams", &[types, pids, starts, sizes], Some(bytes)) => {
+            streams_of(bytes, [types, pids, starts, sizes], text)?;
+        }
+        (b"pmtitem", &[index], Some(bytes)) => {
+            let index = u16::try_from(index).ok()?;
+            text.word(b"pmtitem");
+            tables::pmt_entry(bytes, index).tell(text);
+        }
+        (b"outer", &[index], Some(bytes)) => {
+            let index = u16::try_from(index).ok()?;
+            let part = tables::program_descriptor_bytes(bytes, index);
+            text.word(b"outer");
+            descriptor(tables::program_descriptor(bytes, index), part, text);
+        }
+        (b"inner", &[entry, index], Some(bytes)) => {
+            let entry = u16::try_from(entry).ok()?;
+            let index = u16::try_from(index).ok()?;
+            let part = tables::entry_descriptor_bytes(bytes, entry, index);
+            text.word(b"inner");
+            descriptor(tables::entry_descriptor(bytes, entry, index), part, text);
+        }
+        (b"loop", &[place], Some(bytes)) => {
+            text.word(b"loop");
+            tables::next_descriptor(bytes, place as usize).tell(text);
+        }
+        _ => return None,
     }
-    if line.is(b"pmt", 0, true) {
-        return pmt(bytes, text, at);
-    }
-    if line.is(b"loop", 1, true) {
-        return next(bytes, n[0] as usize, text, at);
-    }
-    if !line.within(65535, 65535) {
-        return text::word(text, at, b"bad");
-    }
-    if line.is(b"programs", 2, true) & line.within(256, 256) {
-        return programs(bytes, first as usize, second as usize, text, at);
-    }
-    if line.is(b"streams", 4, true) & line.all_within(256) {
-        return streams(bytes, n, text, at);
-    }
-    if line.is(b"patitem", 1, true) {
-        return pat_item(bytes, first, text, at);
-    }
-    if line.is(b"pmtitem", 1, true) {
-        return pmt_item(bytes, first, text, at);
-    }
-    if line.is(b"outer", 1, true) {
-        return outer(bytes, first, text, at);
-    }
-    if line.is(b"inner", 2, true) {
-        return inner(bytes, first, second, text, at);
-    }
-    text::word(text, at, b"bad")
+    Some(())
 }
 
 // Whether CRC_32 is right.
-fn crc(bytes: &[u8], text: &mut [u8], at: usize) -> usize {
-    let end = text::word(text, at, b"crc");
+fn crc(bytes: &[u8], text: &mut Text<'_>) {
+    text.word(b"crc");
     if crc::residue(bytes) == 0 {
-        return outcome::word(text, end, b"right");
-    }
-    outcome::word(text, end, b"wrong")
-}
-
-// What a PAT and a PMT have in common.
-fn head_fields(head: Head, text: &mut [u8], at: usize) -> usize {
-    let row = [
-        head.id as u64,
-        head.version as u64,
-        outcome::yes(head.current),
-        head.number as u64,
-        head.last as u64,
-    ];
-    outcome::numbers(text, at, &row)
-}
-
-// A section read as a PAT.
-fn pat(bytes: &[u8], text: &mut [u8], at: usize) -> usize {
-    let end = text::word(text, at, b"pat");
-    pat_fields(tables::pat_header(bytes), text, end)
-}
-
-// The header of a PAT, and how many entries there are.
-fn pat_fields(answer: PatHeader, text: &mut [u8], at: usize) -> usize {
-    match answer {
-        PatHeader::Refused(n) => outcome::refused(text, at, n),
-        PatHeader::Header { head, entries } => {
-            let end = head_fields(head, text, at);
-            outcome::number(text, end, entries as u64)
-        }
+        word(text, b"right");
+    } else {
+        word(text, b"wrong");
     }
 }
 
-// All entries of a PAT, written to the first places of two lists.
-fn programs(bytes: &[u8], first: usize, second: usize, text: &mut [u8], at: usize) -> usize {
-    let end = text::word(text, at, b"programs");
-    let mut programs = buffers::marked();
-    let mut pids = buffers::marked();
+// All entries of a PAT, written to the first places of two lists, of which there are so many.
+fn programs_of(bytes: &[u8], places: [u64; 2], text: &mut Text<'_>) -> Option<()> {
+    if places.iter().any(|n| 256 < *n) {
+        return None;
+    }
+    let mut programs = MARKED;
+    let mut pids = MARKED;
     let answer = tables::pat_entries(
         bytes,
-        buffers::first_places(&mut programs, first),
-        buffers::first_places(&mut pids, second),
+        first_of(&mut programs, places[0]),
+        first_of(&mut pids, places[1]),
     );
-    let end = pat_fields(answer, text, end);
-    let end = outcome::word(text, end, b"lists");
-    let row = [
-        outcome::digest_of_numbers(&programs),
-        outcome::digest_of_numbers(&pids),
-    ];
-    outcome::numbers(text, end, &row)
+    text.word(b"programs");
+    answer.tell(text);
+    word(text, b"lists");
+    digest(&programs).tell(text);
+    digest(&pids).tell(text);
+    Some(())
 }
 
-// An entry of a PAT.
-fn pat_item(bytes: &[u8], index: u16, text: &mut [u8], at: usize) -> usize {
-    let end = text::word(text, at, b"patitem");
-    let answer = tables::pat_entry(bytes, index);
-    match answer {
-        PatEntry::Refused(n) => outcome::refused(text, end, n),
-        PatEntry::Entry(program) => {
-            let row = [program.number as u64, program.pid.0 as u64];
-            outcome::numbers(text, end, &row)
-        }
+// All entries of a PMT, written to the first places of four lists, of which there are so many.
+fn streams_of(bytes: &[u8], places: [u64; 4], text: &mut Text<'_>) -> Option<()> {
+    if places.iter().any(|n| 256 < *n) {
+        return None;
     }
-}
-
-// A section read as a PMT.
-fn pmt(bytes: &[u8], text: &mut [u8], at: usize) -> usize {
-    let end = text::word(text, at, b"pmt");
-    let answer = tables::pmt_header(bytes);
-    match answer {
-        PmtHeader::Refused(n) => outcome::refused(text, end, n),
-        PmtHeader::Header {
-            head,
-            pcr_pid,
-            descriptors,
-            entries,
-        } => {
-            let row = [pcr_pid.0 as u64, descriptors as u64, entries as u64];
-            let end = head_fields(head, text, end);
-            outcome::numbers(text, end, &row)
-        }
-    }
-}
-
-// The answer for a whole PMT.
-fn listed_fields(answer: PmtListed, text: &mut [u8], at: usize) -> usize {
-    match answer {
-        PmtListed::Refused(n) => outcome::refused(text, at, n),
-        PmtListed::Listed {
-            head,
-            pcr_pid,
-            start,
-            size,
-            entries,
-        } => {
-            let row = [pcr_pid.0 as u64, start as u64, size as u64, entries as u64];
-            let end = head_fields(head, text, at);
-            outcome::numbers(text, end, &row)
-        }
-    }
-}
-
-// All entries of a PMT, written to the first places of four lists.
-fn streams(bytes: &[u8], n: Values, text: &mut [u8], at: usize) -> usize {
-    let mut types = buffers::marked_bytes();
-    let mut pids = buffers::marked();
-    let mut starts = buffers::marked();
-    let mut sizes = buffers::marked();
+    let mut types = MARKED_BYTES;
+    let mut pids = MARKED;
+    let mut starts = MARKED;
+    let mut sizes = MARKED;
     let answer = tables::pmt_entries(
         bytes,
-        buffers::first_mut(&mut types, n[0] as usize),
-        buffers::first_places(&mut pids, n[1] as usize),
-        buffers::first_places(&mut starts, n[2] as usize),
-        buffers::first_places(&mut sizes, n[3] as usize),
+        first_of(&mut types, places[0]),
+        first_of(&mut pids, places[1]),
+        first_of(&mut starts, places[2]),
+        first_of(&mut sizes, places[3]),
     );
-    let end = text::word(text, at, b"streams");
-    let end = listed_fields(answer, text, end);
-    let end = outcome::word(text, end, b"lists");
-    let row = [
-        outcome::digest(&types),
-        outcome::digest_of_numbers(&pids),
-        outcome::digest_of_numbers(&starts),
-        outcome::digest_of_numbers(&sizes),
-    ];
-    outcome::numbers(text, end, &row)
-}
-
-// An entry of a PMT.
-fn pmt_item(bytes: &[u8], index: u16, text: &mut [u8], at: usize) -> usize {
-    let end = text::word(text, at, b"pmtitem");
-    let answer = tables::pmt_entry(bytes, index);
-    match answer {
-        PmtEntry::Refused(n) => outcome::refused(text, end, n),
-        PmtEntry::Entry(stream) => {
-            let row = [
-                stream.stream_type as u64,
-                stream.pid.0 as u64,
-                stream.descriptors as u64,
-            ];
-            outcome::numbers(text, end, &row)
-        }
-    }
-}
-
-// A descriptor of the program's loop.
-fn outer(bytes: &[u8], index: u16, text: &mut [u8], at: usize) -> usize {
-    let end = text::word(text, at, b"outer");
-    let found = tables::program_descriptor(bytes, index);
-    let part = tables::program_descriptor_bytes(bytes, index);
-    descriptor(found, part, text, end)
-}
-
-// A descriptor of an entry's loop.
-fn inner(bytes: &[u8], entry: u16, index: u16, text: &mut [u8], at: usize) -> usize {
-    let end = text::word(text, at, b"inner");
-    let found = tables::entry_descriptor(bytes, entry, index);
-    let part = tables::entry_descriptor_bytes(bytes, entry, index);
-    descriptor(found, part, text, end)
+    text.word(b"streams");
+    answer.tell(text);
+    word(text, b"lists");
+    digest(&types).tell(text);
+    digest(&pids).tell(text);
+    digest(&starts).tell(text);
+    digest(&sizes).tell(text);
+    Some(())
 }
 
 // A descriptor, and the digest of its bytes.
-fn descriptor(found: PmtDescriptor, part: &[u8], text: &mut [u8], at: usize) -> usize {
-    match found {
-        PmtDescriptor::Refused(n) => outcome::refused(text, at, n),
-        PmtDescriptor::Descriptor(place) => {
-            let row = [
-                place.tag as u64,
-                place.start as u64,
-                place.size as u64,
-                outcome::digest(part),
-            ];
-            outcome::numbers(text, at, &row)
-        }
+fn descriptor(found: Result<Place, Refusal>, part: &[u8], text: &mut Text<'_>) {
+    found.tell(text);
+    if found.is_ok() {
+        digest(part).tell(text);
     }
 }
 
-// The descriptor at a place of the bytes.
-fn next(bytes: &[u8], place: usize, text: &mut [u8], at: usize) -> usize {
-    let end = text::word(text, at, b"loop");
-    let found = tables::next_descriptor(bytes, place);
-    match found {
-        PmtDescriptor::Refused(n) => outcome::refused(text, end, n),
-        PmtDescriptor::Descriptor(place) => {
-            let row = [place.tag as u64, place.start as u64, place.size as u64];
-            outcome::numbers(text, end, &row)
-        }
+// What a PAT and a PMT have in common.
+impl Tell for Head {
+    fn tell(self, text: &mut Text<'_>) {
+        self.id.tell(text);
+        self.version.tell(text);
+        self.current.tell(text);
+        self.number.tell(text);
+        self.last.tell(text);
+    }
+}
+
+impl Tell for PatHeader {
+    fn tell(self, text: &mut Text<'_>) {
+        self.head.tell(text);
+        self.entries.tell(text);
+    }
+}
+
+impl Tell for Program {
+    fn tell(self, text: &mut Text<'_>) {
+        self.number.tell(text);
+        self.pid.tell(text);
+    }
+}
+
+impl Tell for PmtHeader {
+    fn tell(self, text: &mut Text<'_>) {
+        self.head.tell(text);
+        self.pcr_pid.tell(text);
+        self.descriptors.tell(text);
+        self.entries.tell(text);
+    }
+}
+
+impl Tell for PmtListed {
+    fn tell(self, text: &mut Text<'_>) {
+        self.head.tell(text);
+        self.pcr_pid.tell(text);
+        self.start.tell(text);
+        self.size.tell(text);
+        self.entries.tell(text);
+    }
+}
+
+impl Tell for Stream {
+    fn tell(self, text: &mut Text<'_>) {
+        self.stream_type.tell(text);
+        self.pid.tell(text);
+        self.descriptors.tell(text);
+    }
+}
+
+impl Tell for Place {
+    fn tell(self, text: &mut Text<'_>) {
+        self.tag.tell(text);
+        self.start.tell(text);
+        self.size.tell(text);
     }
 }

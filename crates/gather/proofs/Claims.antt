@@ -1,21 +1,23 @@
 -- What is claimed holds: a promise that is an equation admits one outcome, a table is exact as every table is, and the rest are laws of the rule.
 -- Assumes nothing.
-use mathlib.Core.Path.{◌≡◌, refl}
+use mathlib.Core.Path.{◌≡◌, refl, ap}
+use Rattle.std.specs.declared.result.Result as by_name
+use Rattle.ground.specs.declared.Refusal.{Refusal}
+use Rattle.ground.proofs.Told.{made, back}
 use mathlib.Core.Bool.{Bool}
 use mathlib.Core.List.{List}
 use Prim.Native.Nat.{ℕ}
-use Rattle.ground.specs.Answer.{Answer, refused, given}
+use Rattle.ground.specs.Answer.{refused}
 use Rattle.ground.specs.Outcome.{Determined}
 use Rattle.ground.specs.Refusal.{ExactCall}
 use Rattle.ground.proofs.Judged.{exact_call}
 use Rattle.ground.proofs.Outcome.{determined, determined_told}
 use Rattle.gather.specs.Rule.{leaves_none, rule}
-use Rattle.gather.specs.Memory.{held_of, sound_marks, state_of, contradicts_of, Result, told_gathering, Leaves, leaves, result_of, on_memory, gather_refusals, gather_of}
+use Rattle.gather.specs.Memory.{held_of, sound_marks, state_of, contradicts_of, Result, told_gathered, told_gathering, Leaves, leaves, result_of, on_memory, gather_refusals, gather_of}
 use Rattle.gather.specs.Promises.{Gathers}
 use Rattle.gather.specs.Claims.{Claims}
 use Rattle.gather.specs.declared.Marks.{Marks}
-use Rattle.gather.specs.declared.Gathering.{Gathering}
-use Rattle.gather.specs.declared.Gathering.TheVariants as gathering
+use Rattle.gather.specs.declared.Gathered.{Gathered}
 use Rattle.gather.specs.declared.kind.Kind.TheVariants as kind
 use Rattle.gather.proofs.Walk.{walk_kind}
 use Rattle.gather.proofs.RuleKeeps.{rule_keeps, never_starts}
@@ -30,29 +32,24 @@ use Rattle.gather.proofs.Examples.{longest_is, stuck_is}
 
 -- ---- nothing of an outcome of `gather` is left untold
 abbrev Whole : Type 0
-Whole = Gathering × List ℕ × List ℕ
+Whole = by_name.Result Gathered Refusal × List ℕ × List ℕ
 
 abbrev whole_told : Whole → Leaves
 whole_told o = leaves (told_gathering o.0) o.1 o.2
 
-abbrev gathering_made : Answer Result → Gathering
-gathering_made (given r) =
-    gathering.Done (record { marks = r.marks; sections = r.sections; bytes = r.bytes; jump = r.jump; repeat = r.repeat; given_up = r.given_up; begun = r.begun })
-gathering_made (refused n) = gathering.Refused n
+abbrev gathered_made : Result → Gathered
+gathered_made r =
+    record { marks = r.marks; sections = r.sections; bytes = r.bytes; jump = r.jump; repeat = r.repeat; given_up = r.given_up; begun = r.begun }
 
 abbrev whole_made : Leaves → Whole
-whole_made l = (gathering_made l.answer, l.store, l.out)
+whole_made l = (made gathered_made l.answer, l.store, l.out)
 
-back : (o : Whole) → whole_made (whole_told o) ≡ o
-back o = go o.0
-  where
-    go : (g : Gathering) → whole_made (whole_told (g, o.1, o.2)) ≡ (g, o.1, o.2)
-    go (gathering.Done g) = refl
-    go (gathering.Refused n) = refl
+whole_back : (o : Whole) → whole_made (whole_told o) ≡ o
+whole_back o = ap (λ (r : by_name.Result Gathered Refusal). (r, o.1, o.2)) (back told_gathered gathered_made (λ g. refl) o.0)
 
 module _ (marks : Marks) (counter : ℕ) (start : Bool) (payload store : List ℕ) (base : ℕ) (out : List ℕ) where
   gathers : Determined (Gathers marks counter start payload store base out)
-  gathers = determined_told whole_told whole_made back (gather_of marks counter start payload store base out)
+  gathers = determined_told whole_told whole_made whole_back (gather_of marks counter start payload store base out)
 
   exact : ExactCall (gather_refusals marks counter payload store base out) (λ (l : Leaves). l.answer) (λ n. leaves (refused n) store out)
       (gather_of marks counter start payload store base out)

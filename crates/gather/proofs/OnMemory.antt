@@ -7,16 +7,17 @@ use mathlib.Core.List.{List, [], ◌∷◌, ◌++◌, append_assoc}
 use Prim.Native.Nat.{ℕ, suc, ◌+◌, ◌-◌, ◌*◌, ◌≤◌, ◌<◌, min}
 use native.Mathlib.Nat.{zero-add, not-suc-le-zero}
 use native.Mathlib.Omega.{arith}
-use lib.ListN.{length, take, drop, length-append, length-drop}
-use lib.Seq.{take-length, drop-drop, take-take}
+use lib.ListN.{length, take, drop, length-append}
+use lib.Seq.{length-take-le, drop-drop}
+use Rattle.std.proofs.lemmas.List.{drop-append-le, take-append-drop}
+use borrow.Rule.Slice.PartMut.{put_mid}
 use Rattle.ground.specs.Write.{put}
 use Rattle.ground.proofs.Write.{put-put}
-use Rattle.ground.proofs.Part.{length_part, take_least, drop_least, take_joined, put_joined}
+use Rattle.ground.proofs.Part.{length_part, take_least, drop_least, put_joined}
 use Rattle.gather.specs.declared.measure.Sizes.{Sizes}
 use Rattle.gather.specs.Kind.{join}
-use Rattle.gather.specs.Rule.{Yield, unfinished_of, add, walk, started, together, ended, pointer, front, back, begun_in}
-use Rattle.gather.specs.Memory.{stretch}
-use Rattle.gather.specs.Steps.{sizes_as, sizes_of, carried, carried_as, Room}
+use Rattle.gather.specs.Rule.{Yield, unfinished_of, add, walk, together, ended, pointer, front, back, begun_in}
+use Rattle.gather.specs.Steps.{sizes_as, sizes_of, Carried, carried, carried_as, Room}
 use Rattle.gather.proofs.Walk.{walk_fine, walk_split, whole_count}
 use Rattle.gather.proofs.Adding.{add_fine, add_split, put_added}
 
@@ -29,11 +30,11 @@ pub record AddedFits (n m : ℕ) (z : Sizes) : Type 0 where
   pub few : 3 * z.sections ≤ z.bytes
   pub one : z.given_up ≤ 1
 
-pub added_fits : (held new : List ℕ) (n m : ℕ) (z : Sizes) → length held ≡ n → length new ≡ m → z ≡ sizes_of 0 (add held new) → AddedFits n m z
-added_fits held new n m z k l e =
+pub added_fits : (held new : List ℕ) (z : Sizes) → z ≡ sizes_of 0 (add held new) → AddedFits (length held) (length new) z
+added_fits held new z e =
     let p = add_split held new in
     let q = add_fine held new in
-    rw (e, ← k, ← l) (record {
+    rw e (record {
       within = p.within;
       most = p.most;
       bound = p.bound;
@@ -69,103 +70,110 @@ abbrev pub sizes_together : Sizes → Sizes → Sizes
 sizes_together first rest =
     sizes_as (first.sections + rest.sections) (first.bytes + rest.bytes) rest.held (first.given_up + unfinished_of first.held + rest.given_up) rest.begun
 
+-- ---- a part of a list that was written
+-- a list whose n elements from a place on are others now
+pub put_part : (d : List ℕ) (at n : ℕ) (s t : List ℕ) → t ≡ s → n ≡ length s → put_mid at n d t ≡ put d at s
+unfolding put
+put_part d at n s t e k = rw (e, k, drop-drop (length s) at d)
+
+-- a write at the start of a part is one at the part's place
+pub put_inside : (d : List ℕ) (at n : ℕ) (s : List ℕ) → at + n ≤ length d → length s ≤ n
+    → put_mid at n d (put (take n (drop at d)) 0 s) ≡ put d at s
+unfolding put
+put_inside d at n s f h =
+    let r = drop at d in
+    let long : length (take n r) ≡ n = length_part n d at f in
+    let cut : drop (length s) (take n r) ++ drop n r ≡ drop (length s) r =
+    sym (drop-append-le (length s) (take n r) (drop n r) (rw long h)) ∙ ap (λ (l : List ℕ). drop (length s) l) (take-append-drop n r) in
+    rw (zero-add (length s), append_assoc s (drop (length s) (take n r)) (drop n r), cut, drop-drop (length s) at d)
+
+-- what was carried to an area was carried to the store where the area lies
+pub carried_area : (store : List ℕ) (base n : ℕ) (out : List ℕ) (begun : ℕ) (y : Yield) → base + n ≤ length store → length y.held ≤ n
+    → (z : Sizes) (area' out' : List ℕ) → carried_as z area' out' ≡ carried begun y (take n (drop base store)) 0 out
+    → carried_as z (put_mid base n store area') out' ≡ carried begun y store base out
+carried_area store base n out begun y f h z area' out' e =
+    ap (λ (c : Carried). carried_as c.sizes (put_mid base n store c.store) c.out) e
+    ∙ ap (λ (l : List ℕ). carried_as (sizes_of begun y) l (put out 0 (join y.sections))) (put_inside store base n y.held f h)
+
 -- ---- the pointer's two parts, cut at the payload's end
-front_is : (p : List ℕ) → 0 < length p → stretch (min (1 + pointer p) (length p) - 1) p 1 ≡ front p
+pub front_is : (p : List ℕ) → 0 < length p → take (min (length p) (1 + pointer p) - 1) (drop 1 p) ≡ front p
 front_is [] h = absurd (not-suc-le-zero h)
 front_is (x ∷ xs) h =
-    let m : min (1 + x) (suc (length xs)) - 1 ≡ min x (length xs) = omega arith in
+    let m : min (suc (length xs)) (1 + x) - 1 ≡ min x (length xs) = omega arith in
     rw m (take_least xs x)
 
-module _ (n : ℕ) (payload store : List ℕ) (base : ℕ) (out : List ℕ) (room : Room n payload store base out) where
-  -- unit start 0
-  pub continued_carried : (z : Sizes) → z ≡ sizes_of 0 (add (stretch n store base) (stretch (length payload) payload 0))
-      → carried_as z (put store (base + n) (stretch (z.held - n) payload 0)) (put out 0 (take z.bytes (stretch n store base ++ drop 0 payload)))
-      ≡ carried 0 (add (stretch n store base) payload) store base out
-  continued_carried z e =
-      let z_is : z ≡ sizes_of 0 (add (stretch n store base) payload) = rw (take-length payload) at e in
-      rw (z_is, put_added store base n payload room.area room.bound, (add_split (stretch n store base) payload).joined)
+pub back_is : (p : List ℕ) → drop (min (length p) (1 + pointer p)) p ≡ back p
+back_is p =
+    let m : min (length p) (1 + pointer p) ≡ min (1 + pointer p) (length p) = omega arith in
+    rw m (drop_least p (1 + pointer p))
 
-  -- unit start 1
-  module _ (some : 0 < length payload) (from : ℕ) (cut : from ≡ min (1 + pointer payload) (length payload)) where
-    first : Yield
-    first = add (stretch n store base) (stretch (from - 1) payload 1)
+-- what is held has as many bytes as the marks say
+pub held_size : {n : ℕ} {payload area out : List ℕ} → Room n payload area 0 out → length (take n area) ≡ n
+held_size {n} {payload} {area} {out} room = length-take-le n area (omega (arith, room.bound, room.area))
 
-    rest : Yield
-    rest = walk (drop from payload)
+-- unit start 0
+pub continued_carried : (n : ℕ) (payload area out : List ℕ) → Room n payload area 0 out → (z : Sizes) → z ≡ sizes_of 0 (add (take n area) payload)
+    → carried_as z (put area n (take (z.held - n) payload)) (put out 0 (take z.bytes (take n area ++ payload)))
+    ≡ carried 0 (add (take n area) payload) area 0 out
+continued_carried n payload area out room z e =
+    let more : put area n (take (length (add (take n area) payload).held - n) payload) ≡ put area 0 (add (take n area) payload).held =
+    rw (zero-add n) at (put_added area 0 n payload room.area room.bound) in
+    rw (e, more, (add_split (take n area) payload).joined)
 
-    back_is : drop from payload ≡ back payload
-    back_is = rw cut (drop_least payload (1 + pointer payload))
+-- unit start 1: the bounds of what was measured of the first bytes, after the held ones, and of the bytes after them
+pub record PartedFits (before front back out : List ℕ) (x y : Sizes) : Type 0 where
+  pub first : x.bytes ≤ length before + length front
+  pub rest : y.bytes + y.held ≤ length back
+  pub held : y.held ≤ 184
+  pub room : x.bytes + y.bytes ≤ length out
+  pub few : (3 * x.sections ≤ x.bytes) × (3 * y.sections ≤ y.bytes)
+  pub gave : (x.given_up ≤ 1) × (y.given_up ≤ 1)
+  pub rests : unfinished_of x.held ≤ 1
 
-    -- what the two parts give, cut at the payload's end
-    shape : started (stretch n store base) payload ≡ together (ended first) rest
-    unfolding started first rest
-    shape =
-        let f : stretch (from - 1) payload 1 ≡ front payload = rw cut (front_is payload some) in
-        rw (f, back_is)
+pub parted_fits : {n : ℕ} {front back area out : List ℕ} {x y : Sizes} → Room n front area 0 out → length front + length back < 184
+    → x ≡ sizes_of 0 (add (take n area) front) → y ≡ sizes_of (begun_in back) (walk back) → PartedFits (take n area) front back out x y
+parted_fits {n} {front} {back} {area} {out} {x} {y} room short p q =
+    let f = added_fits (take n area) front x p in
+    let w = walked_fits back (begun_in back) y q in
+    let size = held_size room in
+    record {
+      first = f.within;
+      rest = w.within;
+      held = omega (arith, w.within, short);
+      room = omega (arith, f.within, w.within, size, short, room);
+      few = (f.few, w.few);
+      gave = (f.one, w.one);
+      rests = unfinished_le x.held;
+    }
 
-    bytes_first : length (join first.sections) ≤ length (stretch n store base) + (from - 1)
-    unfolding first
-    bytes_first =
-        let size = length_part (from - 1) payload 1 (rw cut (omega arith)) in
-        let w = (add_split (stretch n store base) (stretch (from - 1) payload 1)).within in
-        omega arith
-
-    out_first : take (length (join first.sections)) (stretch n store base ++ drop 1 payload) ≡ join first.sections
-    unfolding first
-    out_first =
-        sym (take_joined (stretch n store base) (drop 1 payload) (length (join first.sections)) (from - 1) bytes_first)
-        ∙ (add_split (stretch n store base) (stretch (from - 1) payload 1)).joined
-
-    fits : length (join first.sections) + length (join rest.sections) ≤ length out
-    unfolding rest
-    fits =
-        let held = length_part n store base (let a = room.area in let h = room.bound in omega arith) in
-        let w = rw length-drop at (walk_split (drop from payload)).fits in
-        omega (arith, bytes_first, held, room, cut)
-
-    store_is : put store base (stretch (length rest.held) payload (from + length (join rest.sections))) ≡ put store base rest.held
-    unfolding rest
-    store_is =
-        ap (λ (l : List ℕ). put store base (take (length rest.held) l)) (sym (drop-drop (length (join rest.sections)) from payload))
-        ∙ ap (λ (l : List ℕ). put store base l) (walk_split (drop from payload)).rest
-
-    out_is : put (put out 0 (take (length (join first.sections)) (stretch n store base ++ drop 1 payload))) (length (join first.sections))
-        (stretch (length (join rest.sections)) payload from) ≡ put out 0 (join (first.sections ++ rest.sections))
-    out_is =
-        let second : stretch (length (join rest.sections)) payload from ≡ join rest.sections = unfold rest in (walk_split (drop from payload)).joined in
-        rw (out_first, second)
-        (ap (λ (k : ℕ). put (put out 0 (join first.sections)) k (join rest.sections)) (sym (zero-add (length (join first.sections))))
-        ∙ put-put out 0 (join first.sections) (omega (arith, fits)) (join rest.sections) (omega (arith, fits))
-        ∙ ap (λ (l : List ℕ). put out 0 l) (sym (join-append first.sections rest.sections)))
-
-    pub started_carried : (x y : Sizes) → x ≡ sizes_of 0 (add (stretch n store base) (stretch (from - 1) payload 1))
-        → y ≡ sizes_of (begun_in (drop from payload)) (walk (drop from payload))
-        → carried_as (sizes_together x y)
-        (put store base (stretch y.held payload (from + y.bytes)))
-        (put (put out 0 (take x.bytes (stretch n store base ++ drop 1 payload))) x.bytes (stretch y.bytes payload from))
-        ≡ carried (begun_in (back payload)) (started (stretch n store base) payload) store base out
-    started_carried x y p q =
-        let x_is : x ≡ sizes_of 0 first = unfold first in p in
-        let y_is : y ≡ sizes_of (begun_in (back payload)) rest = unfold rest in q ∙ ap (λ (s : List ℕ). sizes_of (begun_in s) (walk (drop from payload))) back_is in
-        rw (
-          x_is,
-          y_is,
-          shape,
-          store_is,
-          out_is,
-          length-append first.sections rest.sections,
-          join-append first.sections rest.sections,
-          length-append (join first.sections) (join rest.sections),
-        )
+-- unit start 1: what the first bytes give after the held ones, and what the bytes after them give
+module _ (before front back area out : List ℕ) where
+  pub parted_carried : (x y : Sizes) → x ≡ sizes_of 0 (add before front) → y ≡ sizes_of (begun_in back) (walk back) → x.bytes + y.bytes ≤ length out
+      → carried_as (sizes_together x y)
+      (put area 0 (take y.held (drop y.bytes back)))
+      (put (put out 0 (take x.bytes (before ++ front))) x.bytes (take y.bytes back))
+      ≡ carried (begun_in back) (together (ended (add before front)) (walk back)) area 0 out
+  parted_carried x y p q f =
+      let fits : length (join (add before front).sections) + length (join (walk back).sections) ≤ length out = rw (p, q) at f in
+      let two : put (put out 0 (join (add before front).sections)) (length (join (add before front).sections)) (join (walk back).sections)
+      ≡ put out 0 (join (add before front).sections ++ join (walk back).sections) =
+      ap (λ (k : ℕ). put (put out 0 (join (add before front).sections)) k (join (walk back).sections)) (sym (zero-add (length (join (add before front).sections))))
+      ∙ put-put out 0 (join (add before front).sections) (omega (arith, fits)) (join (walk back).sections) (omega (arith, fits)) in
+      rw (
+        p,
+        q,
+        (walk_split back).rest,
+        (walk_split back).joined,
+        (add_split before front).joined,
+        two,
+        length-append (add before front).sections (walk back).sections,
+        join-append (add before front).sections (walk back).sections,
+        length-append (join (add before front).sections) (join (walk back).sections),
+      )
 
 -- ---- a section finished from two places
-pub finish_put : (out store payload : List ℕ) (base held from bytes first : ℕ) → base + held ≤ length store → from + (bytes - held) ≤ length payload
-    → bytes ≤ length out → first ≡ min bytes held
-    → put (put out 0 (stretch first store base)) first (stretch (bytes - first) payload from)
-    ≡ put out 0 (take bytes (stretch held store base ++ drop from payload))
-finish_put out store payload base held from bytes first f g h e =
-    let size = length_part held store base f in
-    let part : stretch first store base ≡ take first (stretch held store base) = sym (take-take first held (drop base store) (omega arith)) in
-    let least : first ≡ min bytes (length (stretch held store base)) = rw size e in
-    let room : bytes ≤ length (stretch held store base ++ drop from payload) = simp (length-append, length-drop) (omega (arith, size)) in
-    rw (part, least) (put_joined out (stretch held store base) (drop from payload) bytes h room)
+pub finish_put : (out held new : List ℕ) (bytes first : ℕ) → bytes ≤ length held + length new → bytes ≤ length out → first ≡ min bytes (length held)
+    → put (put out 0 (take first held)) first (take (bytes - first) new) ≡ put out 0 (take bytes (held ++ new))
+finish_put out held new bytes first f h e =
+    let room : bytes ≤ length (held ++ new) = rw (length-append held new) f in
+    rw e (put_joined out held new bytes h room)

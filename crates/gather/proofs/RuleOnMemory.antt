@@ -2,7 +2,7 @@
 -- Assumes nothing.
 use mathlib.Core.Path.{◌≡◌, refl, sym, ◌∙◌, ap}
 use mathlib.Core.Bool.{Bool, true, false, cond, ◌&&◌, ◌||◌, not, false≢true}
-use mathlib.Core.List.{List, ◌++◌, append-nil}
+use mathlib.Core.List.{List}
 use Prim.Native.Nat.{ℕ, zero, suc, ◌+◌, ◌-◌, ◌*◌, ◌/◌, ◌%◌, ◌≤◌, min}
 use native.Mathlib.Omega.{arith}
 use lib.Dec.{eqb, leb}
@@ -262,8 +262,8 @@ module _ (m : Marks) (counter : ℕ) (start : Bool) (payload store : List ℕ) (
 
 -- ---- refusal 9, as the code tests it
 pub contradicts_is : (held : ℕ) (store : List ℕ) (base at n : ℕ) (k : Kind) (b : Bool) → at ≡ min base (length store) → n ≡ min held (length store - at)
-    → k ≡ classify (stretch n store at ++ stretch 0 store 0) → b ≡ is_part k → (not (eqb n 0) && not b) ≡ contradicts_of held store base
+    → k ≡ classify (stretch n store at) → b ≡ is_part k → (not (eqb n 0) && not b) ≡ contradicts_of held store base
 contradicts_is held store base at n k b f g e i =
     let part : stretch n store at ≡ stretch held store base = rw (g, f) (part_least held store base) in
     let size : length (stretch held store base) ≡ n = ap length (sym part) ∙ length_part n store at (omega arith) in
-    rw (i, e, append-nil (stretch n store at), part, ← size) (sym (contradicting_kind (stretch held store base)))
+    rw (i, e, part, ← size) (sym (contradicting_kind (stretch held store base)))

@@ -1,19 +1,18 @@
 -- The sizes of what bytes give, as the code finds them: by the kind of what stands first.
 -- Assumes nothing.
-use mathlib.Core.Path.{◌≡◌, sym, ◌∙◌, ap}
+use mathlib.Core.Path.{◌≡◌, refl, sym, ◌∙◌, ap}
 use mathlib.Core.List.{List, [], ◌++◌, append-nil}
-use Prim.Native.Nat.{ℕ, suc, ◌+◌, ◌≤◌, ◌<◌}
+use Prim.Native.Nat.{ℕ, suc, ◌+◌}
 use native.Mathlib.Nat.{add-zero, add_assoc}
 use native.Mathlib.Omega.{arith}
 use lib.ListN.{length, take, drop, length-append}
 use lib.Seq.{length-take-le, drop-drop}
-use Rattle.ground.proofs.Part.{length_part, front_size}
+use Rattle.ground.proofs.Part.{front_size}
 use Rattle.gather.specs.declared.kind.Kind.{Kind}
 use Rattle.gather.specs.declared.kind.Kind.TheVariants.{Nothing, Part, Overlong, Whole}
 use Rattle.gather.specs.declared.measure.Sizes.{Sizes}
 use Rattle.gather.specs.Kind.{classify, join}
 use Rattle.gather.specs.Rule.{Yield, unfinished, nothing, first, walk, add, begun_in}
-use Rattle.gather.specs.Memory.{stretch}
 use Rattle.gather.specs.Steps.{sizes_as, sizes_of}
 use Rattle.gather.proofs.Classes.{whole_fits, part_some}
 use Rattle.gather.proofs.Walk.{rest_after, walk_kind}
@@ -21,30 +20,29 @@ use Rattle.gather.proofs.Adding.{add_none, add_kind}
 use Rattle.gather.proofs.Begun.{sections_in, begun_is}
 
 -- ---- bytes added to held ones
--- the sizes with no bytes held, and by the kind of the held bytes with the new ones after them
-module _ (n : ℕ) (store : List ℕ) (base : ℕ) (new : List ℕ) (fits : base + n ≤ length store) where
-  pub sizes_none : n ≡ 0 → sizes_of 0 nothing ≡ sizes_of 0 (add (stretch n store base) new)
-  sizes_none e = ap (sizes_of 0) (sym (add_none (stretch n store base) new (length_part n store base fits ∙ e)))
+-- the sizes of what so many bytes, the held ones and the new ones after them, give by their kind
+abbrev pub sizes_by : Kind → ℕ → Sizes
+sizes_by Nothing n = sizes_as 0 0 0 0 0
+sizes_by Part n = sizes_as 0 0 n 0 0
+sizes_by Overlong n = sizes_as 0 0 0 1 0
+sizes_by (Whole k) n = sizes_as 1 k 0 0 0
 
-  pub sizes_kind : (n ≡ 0 → ⊥) → (k : Kind) → k ≡ classify (stretch n store base ++ new)
-      → sizes_of 0 (first k (stretch n store base ++ new) nothing) ≡ sizes_of 0 (add (stretch n store base) new)
-  sizes_kind some k e =
-      let h : 0 < length (stretch n store base) = rw (length_part n store base fits) (omega arith) in
-      ap (sizes_of 0) (sym (add_kind (stretch n store base) new k h (sym e)))
+module _ (held new : List ℕ) where
+  pub sizes_none : length held ≡ 0 → sizes_as 0 0 0 0 0 ≡ sizes_of 0 (add held new)
+  sizes_none e = ap (sizes_of 0) (sym (add_none held new e))
 
-  pub sizes_part : (n ≡ 0 → ⊥) → (m : ℕ) → length new ≡ m → Part ≡ classify (stretch n store base ++ new)
-      → sizes_as 0 0 (n + m) 0 0 ≡ sizes_of 0 (add (stretch n store base) new)
-  sizes_part some m l e =
-      let size : length (stretch n store base ++ new) ≡ n + m = rw (length-append (stretch n store base) new, length_part n store base fits, l) in
-      ap (λ (k : ℕ). sizes_as 0 0 k 0 0) (sym size) ∙ sizes_kind some Part e
-
-  pub sizes_whole : (n ≡ 0 → ⊥) → (k : ℕ) → Whole k ≡ classify (stretch n store base ++ new)
-      → sizes_as 1 k 0 0 0 ≡ sizes_of 0 (add (stretch n store base) new)
-  sizes_whole some k e =
-      let w = whole_fits (stretch n store base ++ new) k (sym e) in
-      let cut = take k (stretch n store base ++ new) in
-      let size : length (cut ++ []) ≡ k = ap length (append-nil cut) ∙ length-take-le k (stretch n store base ++ new) w.within in
-      ap (λ (m : ℕ). sizes_as 1 m 0 0 0) (sym size) ∙ sizes_kind some (Whole k) e
+  pub sizes_added : (length held ≡ 0 → ⊥) → (k : Kind) → k ≡ classify (held ++ new) → sizes_by k (length held + length new) ≡ sizes_of 0 (add held new)
+  sizes_added some k e = go k e ∙ ap (sizes_of 0) (sym (add_kind held new k (omega arith) (sym e)))
+    where
+      go : (k : Kind) → k ≡ classify (held ++ new) → sizes_by k (length held + length new) ≡ sizes_of 0 (first k (held ++ new) nothing)
+      go Nothing e = refl
+      go Part e = ap (λ (n : ℕ). sizes_as 0 0 n 0 0) (sym (length-append held new))
+      go Overlong e = refl
+      go (Whole k) e =
+          let w = whole_fits (held ++ new) k (sym e) in
+          let cut = take k (held ++ new) in
+          let size : length (cut ++ []) ≡ k = ap length (append-nil cut) ∙ length-take-le k (held ++ new) w.within in
+          ap (λ (m : ℕ). sizes_as 1 m 0 0 0) (sym size)
 
 -- ---- section after section
 -- the sizes of what bytes give, section after section

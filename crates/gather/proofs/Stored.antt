@@ -7,7 +7,7 @@ use Prim.Native.Nat.{ℕ, ◌+◌, ◌-◌, ◌*◌, ◌≤◌, ◌<◌}
 use native.Mathlib.Omega.{arith}
 use lib.ListN.{length, take}
 use borrow.Author.Tests.{le-ltb}
-use Rattle.ground.proofs.Refusal.{accepted}
+use Rattle.ground.proofs.Refused.{accepted}
 use Rattle.ground.specs.Write.{put}
 use Rattle.ground.proofs.Write.{written}
 use Rattle.gather.specs.declared.Marks.{Marks}

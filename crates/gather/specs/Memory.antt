@@ -1,13 +1,14 @@
 -- Document 01, "From payload to sections": the rule on memory, the held bytes in an area of the store, the finished sections joined at the start of the output.
 use Rattle.std.specs.Prelude.{Bool, cond, not, ◌&&◌, List, [], ◌∷◌, ℕ, ◌+◌, ◌-◌, ◌*◌, ◌/◌, ◌%◌, ltb, leb, eqb, length, take, drop}
+use Rattle.std.specs.declared.result.Result as by_name
 use Rattle.ground.specs.House.{area_bytes, least_output, payload_bytes}
 use Rattle.ground.specs.Answer.{Answer, refused, given}
+use Rattle.ground.specs.Told.{told}
+use Rattle.ground.specs.declared.Refusal.{Refusal}
 use Rattle.ground.specs.Refusal.{Row, judge, ◌when◌}
 use Rattle.ground.specs.Write.{put}
 use Rattle.gather.specs.declared.Marks.{Marks}
 use Rattle.gather.specs.declared.Gathered.{Gathered}
-use Rattle.gather.specs.declared.Gathering.{Gathering}
-use Rattle.gather.specs.declared.Gathering.TheVariants as gathering
 use Rattle.gather.specs.Kind.{join, contradicting}
 use Rattle.gather.specs.Rule.{Last, unseen, seen, State, Outcome, rule}
 
@@ -79,9 +80,8 @@ abbrev pub told_gathered : Gathered → Result
 told_gathered g =
     record { marks = g.marks; sections = g.sections; bytes = g.bytes; jump = g.jump; repeat = g.repeat; given_up = g.given_up; begun = g.begun }
 
-abbrev pub told_gathering : Gathering → Answer Result
-told_gathering (gathering.Done g) = given (told_gathered g)
-told_gathering (gathering.Refused n) = refused n
+abbrev pub told_gathering : by_name.Result Gathered Refusal → Answer Result
+told_gathering g = told told_gathered g
 
 -- what the call leaves: the answer, and every byte of the store and of the output
 pub record Leaves : Type 0 where

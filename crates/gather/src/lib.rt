@@ -12,10 +12,10 @@ ghost use Rattle.gather.specs.Memory.{held_of, sound_marks, last_of, state_of, t
 ghost use Rattle.gather.specs.Promises.{TellsSound, TellsHeld, TellsContradiction, TellsNoneLeft, Gathers};
 ghost use Rattle.gather.specs.Steps.{ungathered_of, taken_of, Room};
 
-use kind::is_part;
-use measure::{Sizes, joined_kind};
+use ground::Refusal;
+use kind::{is_part, kind_at};
+use measure::Sizes;
 use memory::{gathered, unfinished};
-use octets::lesser;
 
 // "Areas: 8, each 4,096 bytes".
 pub const AREA_BYTES: usize = 4096;
@@ -27,13 +27,25 @@ pub const LEAST_OUTPUT: usize = 4278;
 pub const PAYLOAD_BYTES: usize = 184;
 
 // What the rule reads of an area besides the held bytes: how many there are, whether a counter was seen (0 or 1), the last one, and whether its repeat was seen (0 or 1). How many bytes are held is told by two bytes, so that an area's record has eight and none between them that says nothing: the compiler copies it as one.
-#[derive(Clone, Copy)]
+// That something was seen is a number, so that any bytes are marks.
+#[derive(Clone, Copy, PartialEq, Eq)]
 pub struct Marks {
     pub held_low: u8,
     pub held_high: u8,
     pub seen: u8,
     pub counter: u8,
     pub repeated: u8,
+}
+
+impl Marks {
+    // Those of an area that was just taken, and of a free one.
+    pub const NONE: Marks = Marks {
+        held_low: 0,
+        held_high: 0,
+        seen: 0,
+        counter: 0,
+        repeated: 0,
+    };
 }
 
 // What a packet did: the area's marks after it, the finished sections and their bytes, how many sections were begun, jump, repeat, and how many were given up.
@@ -48,21 +60,12 @@ pub struct Gathered {
     pub given_up: u8,
 }
 
-#[derive(Clone, Copy)]
-pub enum Gathering {
-    Done(Gathered),
-    Refused(u8),
-}
-
 // Whether marks are those of a sound state.
 pub fn sound(marks: Marks) -> bool
     ensures { TellsSound marks result }
 {
     if marks.seen == 0 {
-        return (marks.held_low == 0)
-            & (marks.held_high == 0)
-            & (marks.counter == 0)
-            & (marks.repeated == 0);
+        return marks == Marks::NONE;
     }
     (marks.seen == 1) & (marks.held_high <= 15) & (marks.counter <= 15) & (marks.repeated <= 1)
 }
@@ -71,27 +74,27 @@ pub fn sound(marks: Marks) -> bool
 pub fn held_of(marks: Marks) -> usize
     ensures { TellsHeld marks result }
 {
-    marks.held_low as usize + 256 * marks.held_high as usize
+    usize::from(marks.held_low) + 256 * usize::from(marks.held_high)
 }
 
-// Refusal 9: whether the held bytes are no part of a section; bytes past the store's end are none.
+// Refusal 9: whether the held bytes are no part of a section; bytes past the store's end are none. Size and base are the caller's own numbers.
 pub fn contradicts(held: usize, store: &[u8], base: usize) -> bool
     ensures { TellsContradiction held store.now base result }
 {
-    let at = lesser(base, store.len());
-    let n = lesser(held, store.len() - at);
-    let kind = joined_kind(n, store, at, store, 0, 0);
-    (n != 0) & !is_part(kind)
+    let from = base.min(store.len());
+    let n = held.min(store.len() - from);
+    let bytes = &store[from..from + n];
+    (n != 0) & !is_part(kind_at(bytes, 0))
 }
 
 // Refusal 11: whether the pointer leaves no byte for a section.
 pub fn leaves_none(start: bool, payload: &[u8]) -> bool
     ensures { TellsNoneLeft start payload.now result }
 {
-    if payload.len() == 0 {
-        return false;
+    match payload.first() {
+        Some(pointer) => start & (payload.len() <= usize::from(*pointer) + 1),
+        None => false,
     }
-    start & (payload.len() <= payload[0] as usize + 1)
 }
 
 // Whether the counter is the area's last.
@@ -113,30 +116,22 @@ fn skips(marks: Marks, counter: u8) -> bool
 fn kept(jump: bool, held: usize) -> usize
     ensures { (result ≡ cond jump 0 held) × (result ≤ held) }
 {
-    if jump {
-        return 0;
-    }
-    held
+    if jump { 0 } else { held }
 }
 
 // A jump gives up what was held.
 fn lost(jump: bool, held: usize) -> u8
     ensures { result ≡ cond jump (unfinished_of held) 0 }
 {
-    if jump {
-        return unfinished(held);
-    }
-    0
+    if jump { unfinished(held) } else { 0 }
 }
 
 // A packet that is not gathered, without payload or a repeat: no more than the mark of the repeat may change.
 fn ungathered(marks: Marks, repeated: u8, repeat: bool) -> Gathered
     ensures { result ≡ ungathered_of marks repeated repeat }
 {
-    let mut next = marks;
-    next.repeated = repeated;
     Gathered {
-        marks: next,
+        marks: Marks { repeated, ..marks },
         sections: 0,
         bytes: 0,
         begun: 0,
@@ -146,7 +141,7 @@ fn ungathered(marks: Marks, repeated: u8, repeat: bool) -> Gathered
     }
 }
 
-// A packet that is taken, and the area's marks after it.
+// A packet that is taken, and the area's marks after it. It is made of the sizes and of three things more, so there is no `From`.
 fn taken(marks: Marks, jump: bool, given_up: u8, sizes: Sizes) -> Gathered
     ensures { result ≡ taken_of marks jump given_up sizes }
 {
@@ -161,7 +156,7 @@ fn taken(marks: Marks, jump: bool, given_up: u8, sizes: Sizes) -> Gathered
     }
 }
 
-// The rule on memory, where the sizes serve.
+// The rule on memory, where the sizes serve. It has the whole store, since its promise speaks of it.
 fn accepted(
     marks: Marks,
     counter: u8,
@@ -189,22 +184,21 @@ fn accepted(
     let jump = same | skip;
     let held = held_of(marks);
     let lost = lost(jump, held);
-    let sizes = gathered(start, kept(jump, held), payload, store, base, out);
+    let area = &mut store[base..base + AREA_BYTES];
+    let sizes = gathered(start, kept(jump, held), payload, area, out);
     let given_up = lost + sizes.given_up;
-    let held_low = (sizes.held % 256) as u8;
-    let held_high = (sizes.held / 256) as u8;
     // an original: its counter is the last one now, and no repeat of it was seen
     let next = Marks {
-        held_low,
-        held_high,
+        held_low: (sizes.held % 256) as u8,
+        held_high: (sizes.held / 256) as u8,
         seen: 1,
         counter,
-        repeated: 0,
+        ..Marks::NONE
     };
     taken(next, jump, given_up, sizes)
 }
 
-// A packet's counter, unit start and payload, gathered into the area at `base` of the store and to the output.
+// A packet's counter, unit start and payload, gathered into the area at `base` of the store and to the output. Store and base are the caller's own: a base outside is refused.
 pub fn gather(
     marks: Marks,
     counter: u8,
@@ -213,26 +207,26 @@ pub fn gather(
     store: &mut [u8],
     base: usize,
     out: &mut [u8],
-) -> Gathering
+) -> Result<Gathered, Refusal>
     ensures { Gathers marks counter start payload.now store.old base out.old (result, store.new, out.new) }
 {
     if !sound(marks) {
-        return Gathering::Refused(1);
+        return Err(Refusal::UnsoundState);
     }
     if 15 < counter {
-        return Gathering::Refused(1);
+        return Err(Refusal::UnsoundState);
     }
     if store.len() < AREA_BYTES {
-        return Gathering::Refused(3);
+        return Err(Refusal::BufferSize);
     }
     if store.len() - AREA_BYTES < base {
-        return Gathering::Refused(3);
+        return Err(Refusal::BufferSize);
     }
     if out.len() < LEAST_OUTPUT {
-        return Gathering::Refused(3);
+        return Err(Refusal::BufferSize);
     }
     if PAYLOAD_BYTES < payload.len() {
-        return Gathering::Refused(2);
+        return Err(Refusal::PacketSize);
     }
-    Gathering::Done(accepted(marks, counter, start, payload, store, base, out))
+    Ok(accepted(marks, counter, start, payload, store, base, out))
 }

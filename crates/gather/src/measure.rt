@@ -1,11 +1,11 @@
-// What held bytes and a payload give, measured before a byte is copied.
-ghost use Rattle.std.specs.Prelude.{◌≡◌, ◌++◌, ◌≤◌, ◌+◌, length, drop, get_or};
+// What held bytes and new ones give, measured before a byte is copied.
+ghost use Rattle.std.specs.Prelude.{◌≡◌, ◌++◌, get_or};
 ghost use Rattle.gather.specs.Kind.{classify};
 ghost use Rattle.gather.specs.Rule.{walk, add, begun_in};
-ghost use Rattle.gather.specs.Memory.{stretch};
-ghost use Rattle.gather.specs.Steps.{sizes_as, sizes_of};
+ghost use Rattle.gather.specs.Steps.{sizes_of};
 
 use crate::kind::{Kind, kind_at, kind_of};
+use octets::byte_at;
 use section::length_of;
 
 // The sizes of what some bytes give, and how many sections they begin.
@@ -19,97 +19,90 @@ pub struct Sizes {
 }
 
 impl Sizes {
-    fn new(sections: usize, bytes: usize, held: usize, given_up: u8, begun: usize) -> Self
-        ensures { result ≡ sizes_as sections bytes held given_up begun }
-    {
-        Sizes {
-            sections,
-            bytes,
-            held,
-            given_up,
-            begun,
-        }
-    }
+    // Those of bytes of which nothing comes.
+    const NONE: Sizes = Sizes {
+        sections: 0,
+        bytes: 0,
+        held: 0,
+        given_up: 0,
+        begun: 0,
+    };
 }
 
 // A byte of the held bytes and the new ones after them, or 0 past their end.
-fn joined_byte(
-    held: usize,
-    store: &[u8],
-    base: usize,
-    payload: &[u8],
-    from: usize,
-    count: usize,
-    i: usize,
-) -> u8
-    requires { (base + held ≤ length store.now) × (from + count ≤ length payload.now) }
-    ensures { result ≡ get_or (stretch held store.now base ++ stretch count payload.now from) i 0 }
+fn joined_byte(held: &[u8], new: &[u8], i: usize) -> u8
+    ensures { result ≡ get_or (held.now ++ new.now) i 0 }
 {
-    if i < held {
-        return store[base + i];
+    if i < held.len() {
+        held[i]
+    } else {
+        byte_at(new, i - held.len())
     }
-    if i - held < count {
-        return payload[from + (i - held)];
-    }
-    0
 }
 
 // The kind of the held bytes with the new ones after them.
-pub(crate) fn joined_kind(
-    held: usize,
-    store: &[u8],
-    base: usize,
-    payload: &[u8],
-    from: usize,
-    count: usize,
-) -> Kind
-    requires { (base + held ≤ length store.now) × (from + count ≤ length payload.now) }
-    ensures { result ≡ classify (stretch held store.now base ++ stretch count payload.now from) }
+pub(crate) fn joined_kind(held: &[u8], new: &[u8]) -> Kind
+    ensures { result ≡ classify (held.now ++ new.now) }
 {
-    let first = joined_byte(held, store, base, payload, from, count, 0);
-    let second = joined_byte(held, store, base, payload, from, count, 1);
-    let third = joined_byte(held, store, base, payload, from, count, 2);
-    kind_of(first, length_of(second, third), held + count)
+    let first = joined_byte(held, new, 0);
+    let second = joined_byte(held, new, 1);
+    let third = joined_byte(held, new, 2);
+    kind_of(first, length_of(second, third), held.len() + new.len())
 }
 
-// What `count` bytes of the payload, added to the held ones, give: they begin no section.
-pub(crate) fn added(
-    held: usize,
-    store: &[u8],
-    base: usize,
-    payload: &[u8],
-    from: usize,
-    count: usize,
-) -> Sizes
-    requires { (base + held ≤ length store.now) × (from + count ≤ length payload.now) }
-    ensures { result ≡ sizes_of 0 (add (stretch held store.now base) (stretch count payload.now from)) }
+// What new bytes, added to the held ones, give: they begin no section.
+pub(crate) fn added(held: &[u8], new: &[u8]) -> Sizes
+    ensures { result ≡ sizes_of 0 (add held.now new.now) }
 {
-    if held == 0 {
-        return Sizes::new(0, 0, 0, 0, 0);
+    if held.len() == 0 {
+        return Sizes::NONE;
     }
-    let kind = joined_kind(held, store, base, payload, from, count);
-    match kind {
-        Kind::Nothing => Sizes::new(0, 0, 0, 0, 0),
-        Kind::Part => Sizes::new(0, 0, held + count, 0, 0),
-        Kind::Overlong => Sizes::new(0, 0, 0, 1, 0),
-        Kind::Whole(n) => Sizes::new(1, n, 0, 0, 0),
+    match joined_kind(held, new) {
+        Kind::Nothing => Sizes::NONE,
+        Kind::Part => Sizes {
+            held: held.len() + new.len(),
+            ..Sizes::NONE
+        },
+        Kind::Overlong => Sizes {
+            given_up: 1,
+            ..Sizes::NONE
+        },
+        Kind::Whole(n) => Sizes {
+            sections: 1,
+            bytes: n,
+            ..Sizes::NONE
+        },
     }
 }
 
-// What the bytes of the payload from `from` on give.
-pub(crate) fn walk(payload: &[u8], from: usize) -> Sizes
-    requires { from ≤ length payload.now }
-    ensures { result ≡ sizes_of (begun_in (drop from payload.now)) (walk (drop from payload.now)) }
+// What some bytes give, section after section.
+// The step is the size of the section that stands there, so there is no index to go over.
+pub(crate) fn walk(s: &[u8]) -> Sizes
+    ensures { result ≡ sizes_of (begun_in s.now) (walk s.now) }
 {
     let mut sections: usize = 0;
     let mut bytes: usize = 0;
     loop {
-        let left = payload.len() - (from + bytes);
-        let kind = kind_at(payload, from + bytes);
-        match kind {
-            Kind::Nothing => return Sizes::new(sections, bytes, 0, 0, sections),
-            Kind::Part => return Sizes::new(sections, bytes, left, 0, sections + 1),
-            Kind::Overlong => return Sizes::new(sections, bytes, 0, 1, sections + 1),
+        // what stands here is begun, but where it is nothing
+        let ended = Sizes {
+            sections,
+            bytes,
+            begun: sections + 1,
+            ..Sizes::NONE
+        };
+        match kind_at(s, bytes) {
+            Kind::Nothing => return Sizes {
+                begun: sections,
+                ..ended
+            },
+            Kind::Part => return Sizes {
+                held: s.len() - bytes,
+                ..ended
+            },
+            Kind::Overlong => return Sizes {
+                given_up: 1,
+                ..ended
+            },
             Kind::Whole(n) => {
                 sections += 1;
                 bytes += n;

@@ -1,62 +1,43 @@
-// What was measured, copied: finished sections to the output, held bytes to the store.
-ghost use Rattle.std.specs.Prelude.{◌≡◌, ◌++◌, ◌≤◌, ◌<◌, ◌+◌, ◌-◌, length, take, drop};
+// What was measured, copied: finished sections to the output, held bytes to their area.
+ghost use Rattle.std.specs.Prelude.{◌≡◌, ◌++◌, ◌≤◌, ◌<◌, ◌+◌, length, take};
 ghost use Rattle.ground.specs.Write.{put};
-ghost use Rattle.gather.specs.Rule.{unfinished_of, add, started, yield, back, begun_in, begun_by};
+ghost use Rattle.gather.specs.Rule.{unfinished_of, add, walk, together, ended, started, yield, back, begun_in, begun_by};
 ghost use Rattle.gather.specs.Memory.{stretch};
 ghost use Rattle.gather.specs.Steps.{carried, carried_as, Room};
 
 use crate::measure::{Sizes, added, walk};
-use octets::lesser;
 
-// The difference, or 0.
-fn less(a: usize, b: usize) -> usize
-    ensures { result ≡ a - b }
+// Bytes copied to `dst` from `at` on. Most copies are of no bytes: leaving those out saves more calls than it costs tests.
+fn write(dst: &mut [u8], at: usize, src: &[u8])
+    requires { at + length src.now ≤ length dst.old }
+    ensures { dst.new ≡ put dst.old at src.now }
 {
-    if a < b {
-        return 0;
-    }
-    a - b
-}
-
-// `n` bytes of `src` from `from` on, copied to `dst` from `at` on.
-fn copy(dst: &mut [u8], at: usize, src: &[u8], from: usize, n: usize)
-    requires { (at + n ≤ length dst.old) × (from + n ≤ length src.now) }
-    ensures { dst.new ≡ put dst.old at (stretch n src.now from) }
-{
-    let mut i: usize = 0;
-    while i < n {
-        dst[at + i] = src[from + i];
-        i += 1;
+    if !src.is_empty() {
+        dst[at..at + src.len()].copy_from_slice(src);
     }
 }
 
-// The first `bytes` of the held bytes and the payload's from `from` on, copied to the start of the output.
-fn finish(
-    bytes: usize,
-    held: usize,
-    store: &[u8],
-    base: usize,
-    payload: &[u8],
-    from: usize,
-    out: &mut [u8],
-)
-    requires { (base + held ≤ length store.now) × (from + (bytes - held) ≤ length payload.now) × (bytes ≤ length out.old) }
-    ensures { out.new ≡ put out.old 0 (take bytes (stretch held store.now base ++ drop from payload.now)) }
+// The first `bytes` of the held bytes and the new ones after them, copied to the start of the output.
+fn finish(bytes: usize, held: &[u8], new: &[u8], out: &mut [u8])
+    requires { (bytes ≤ length held.now + length new.now) × (bytes ≤ length out.old) }
+    ensures { out.new ≡ put out.old 0 (take bytes (held.now ++ new.now)) }
 {
-    let first = lesser(bytes, held);
-    copy(out, 0, store, base, first);
-    copy(out, first, payload, from, bytes - first);
+    let first = bytes.min(held.len());
+    write(out, 0, &held[..first]);
+    write(out, first, &new[..bytes - first]);
 }
 
 // Unit start 0: bytes are added to the held ones.
-fn continued(held: usize, payload: &[u8], store: &mut [u8], base: usize, out: &mut [u8]) -> Sizes
-    requires { Room held payload.now store.old base out.old }
-    ensures { carried_as result store.new out.new
-        ≡ carried 0 (add (stretch held store.old base) payload.now) store.old base out.old }
+// Area and output stay two loans beside what is read: a struct of them would be built for one call and taken apart in it.
+fn continued(held: usize, payload: &[u8], area: &mut [u8], out: &mut [u8]) -> Sizes
+    requires { Room held payload.now area.old 0 out.old }
+    ensures { carried_as result area.new out.new
+        ≡ carried 0 (add (stretch held area.old 0) payload.now) area.old 0 out.old }
 {
-    let sizes = added(held, store, base, payload, 0, payload.len());
-    finish(sizes.bytes, held, store, base, payload, 0, out);
-    copy(store, base + held, payload, 0, less(sizes.held, held));
+    let before = &area[..held];
+    let sizes = added(before, payload);
+    finish(sizes.bytes, before, payload, out);
+    write(area, held, &payload[..sizes.held.saturating_sub(held)]);
     sizes
 }
 
@@ -64,32 +45,39 @@ fn continued(held: usize, payload: &[u8], store: &mut [u8], base: usize, out: &m
 pub(crate) fn unfinished(held: usize) -> u8
     ensures { result ≡ unfinished_of held }
 {
-    if held == 0 {
-        return 0;
-    }
-    1
+    u8::from(held != 0)
 }
 
-// Unit start 1: the bytes that the pointer counts go to the held section, and sections follow them.
-fn started(held: usize, payload: &[u8], store: &mut [u8], base: usize, out: &mut [u8]) -> Sizes
-    requires room { Room held payload.now store.old base out.old }
-    requires payload_nonzero { 0 < length payload.now }
-    ensures { carried_as result store.new out.new
-        ≡ carried (begun_in (back payload.now)) (started (stretch held store.old base) payload.now) store.old base out.old }
+// Bytes that go to the held section, and then bytes in which sections begin.
+fn parted(held: usize, front: &[u8], back: &[u8], area: &mut [u8], out: &mut [u8]) -> Sizes
+    requires room { Room held front.now area.old 0 out.old }
+    requires after_pointer { length front.now + length back.now < 184 }
+    ensures { carried_as result area.new out.new
+        ≡ carried (begun_in back.now) (together (ended (add (stretch held area.old 0) front.now)) (walk back.now)) area.old 0 out.old }
 {
-    let from = lesser(1 + payload[0] as usize, payload.len());
-    let first = added(held, store, base, payload, 1, from - 1);
-    let rest = walk(payload, from);
-    finish(first.bytes, held, store, base, payload, 1, out);
-    copy(out, first.bytes, payload, from, rest.bytes);
-    copy(store, base, payload, from + rest.bytes, rest.held);
+    let before = &area[..held];
+    let first = added(before, front);
+    let rest = walk(back);
+    finish(first.bytes, before, front, out);
+    write(out, first.bytes, &back[..rest.bytes]);
+    write(area, 0, &back[rest.bytes..rest.bytes + rest.held]);
     Sizes {
         sections: first.sections + rest.sections,
         bytes: first.bytes + rest.bytes,
-        held: rest.held,
         given_up: first.given_up + unfinished(first.held) + rest.given_up,
-        begun: rest.begun,
+        ..rest
     }
+}
+
+// Unit start 1: the bytes that the pointer counts go to the held section, and sections follow them.
+fn started(held: usize, payload: &[u8], area: &mut [u8], out: &mut [u8]) -> Sizes
+    requires room { Room held payload.now area.old 0 out.old }
+    requires payload_nonzero { 0 < length payload.now }
+    ensures { carried_as result area.new out.new
+        ≡ carried (begun_in (back payload.now)) (started (stretch held area.old 0) payload.now) area.old 0 out.old }
+{
+    let from = payload.len().min(1 + usize::from(payload[0]));
+    parted(held, &payload[1..from], &payload[from..], area, out)
 }
 
 // What a payload gives after the held bytes.
@@ -97,17 +85,17 @@ pub(crate) fn gathered(
     start: bool,
     held: usize,
     payload: &[u8],
-    store: &mut [u8],
-    base: usize,
+    area: &mut [u8],
     out: &mut [u8],
 ) -> Sizes
-    requires room { Room held payload.now store.old base out.old }
+    requires room { Room held payload.now area.old 0 out.old }
     requires payload_nonzero { 0 < length payload.now }
-    ensures { carried_as result store.new out.new
-        ≡ carried (begun_by start payload.now) (yield (stretch held store.old base) start payload.now) store.old base out.old }
+    ensures { carried_as result area.new out.new
+        ≡ carried (begun_by start payload.now) (yield (stretch held area.old 0) start payload.now) area.old 0 out.old }
 {
     if start {
-        return started(held, payload, store, base, out);
+        started(held, payload, area, out)
+    } else {
+        continued(held, payload, area, out)
     }
-    continued(held, payload, store, base, out)
 }

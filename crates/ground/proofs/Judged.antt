@@ -9,8 +9,8 @@ use Rattle.ground.specs.Answer.{Answer, refused, given}
 use Rattle.ground.specs.Refusal.{Row, judge, Silent, First, Exact, ExactCall}
 use Rattle.ground.specs.Walk.{Every}
 use Rattle.ground.proofs.Answer.{given_apart, given_same, refused_same}
-use Rattle.ground.proofs.Refusal
-use Rattle.ground.proofs.Refusal.{accepted, verdict, only}
+use Rattle.ground.proofs.Refused
+use Rattle.ground.proofs.Refused.{accepted, verdict, only}
 
 module _ {ℓ} {A B : Type ℓ} (f : A → B) where
   -- the answer made into another; a refusal stays
@@ -50,7 +50,7 @@ module _ {ℓ} {A : Type ℓ} (rows : List Row) (x : A) where
   pub given_by : (y : A) → judge refused rows (given x) ≡ given y → Silent rows × (y ≡ x)
   given_by y e =
       ⊎_elim (λ s. (s, given_same (sym e ∙ accepted refused (given x) rows s)))
-      (λ f. absurd (given_apart (sym e ∙ Refusal.refused refused (given x) f.0 rows f.1)))
+      (λ f. absurd (given_apart (sym e ∙ Refused.refused refused (given x) f.0 rows f.1)))
       (verdict rows)
 
   -- where n was given n is the first that applies
@@ -61,7 +61,7 @@ module _ {ℓ} {A : Type ℓ} (rows : List Row) (x : A) where
   pub exact : Exact rows (judge refused rows (given x))
   exact =
       record {
-        number = λ n. (refused_by n, Refusal.refused refused (given x) n rows);
+        number = λ n. (refused_by n, Refused.refused refused (given x) n rows);
         none = (λ e. (given_by e.0 e.1).0, λ s. (x, accepted refused (given x) rows s));
       }
 
@@ -120,10 +120,10 @@ module _ {ℓ ℓ'} {A : Type ℓ} {B : Type ℓ'} (x : A) (y : B) (rows : List 
   -- where one did it is the answer
   module _ (n : ℕ) (e : judge refused rows (given x) ≡ refused n) where
     pub is_refused_lem : judge refused rows (given y) ≡ refused n
-    is_refused_lem = Refusal.refused refused (given y) n rows (refused_by rows x n e)
+    is_refused_lem = Refused.refused refused (given y) n rows (refused_by rows x n e)
 
     pub stays_refused : (later : List Row) → judge refused (rows ++ later) (given y) ≡ refused n
-    stays_refused later = judge_append refused rows later (given y) ∙ Refusal.refused refused (judge refused later (given y)) n rows (refused_by rows x n e)
+    stays_refused later = judge_append refused rows later (given y) ∙ Refused.refused refused (judge refused later (given y)) n rows (refused_by rows x n e)
 
 -- ---- a call that leaves more than its answer
 module _ {ℓ} {A B : Type ℓ} (answer_of : A → Answer B) (unchanged : ℕ → A) (tells : (n : ℕ) → answer_of (unchanged n) ≡ refused n)
@@ -133,7 +133,7 @@ module _ {ℓ} {A B : Type ℓ} (answer_of : A → Answer B) (unchanged : ℕ �
 
   -- a refusal leaves what a refusal of its number leaves
   still : (n : ℕ) → answer_of (judge unchanged rows x) ≡ refused n → judge unchanged rows x ≡ unchanged n
-  still n q = Refusal.refused unchanged x n rows (refused_by rows b n (sym answer_is ∙ q))
+  still n q = Refused.refused unchanged x n rows (refused_by rows b n (sym answer_is ∙ q))
 
   pub exact_call : ExactCall rows answer_of unchanged (judge unchanged rows x)
   exact_call = record { table = rw answer_is (exact rows b); still = still }

@@ -1,7 +1,7 @@
 pub mod Answer
 pub mod Perhaps
 pub mod Test
-pub mod Refusal
+pub mod Refused
 pub mod Judged
 pub mod Write
 pub mod Walk
@@ -13,6 +13,7 @@ pub mod Part
 pub mod Outcome
 pub mod Field
 pub mod Items
-pub mod Lent
 pub mod Entries
 pub mod Xor
+pub mod Told
+pub mod Claims

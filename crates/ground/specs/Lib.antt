@@ -9,3 +9,6 @@ pub mod Lent
 pub mod Set
 pub mod Perhaps
 pub mod Items
+pub mod Told
+pub mod Promises
+pub mod Claims

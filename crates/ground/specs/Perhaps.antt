@@ -1,15 +1,12 @@
 -- What may be missing: "a missing one is not zero".
-use Rattle.std.specs.Prelude.{Bool, cond, ℕ}
-
-pub data Perhaps {ℓ} (A : Type ℓ) : Type ℓ where
-  there : A → Perhaps A
-  absent : Perhaps A
+use Rattle.std.specs.Prelude.{Bool, cond, ℕ, Some, None}
+use Rattle.std.specs.declared.option.Option.{Option}
 
 -- there where the test holds
-abbrev pub perhaps {ℓ} : {A : Type ℓ} → Bool → A → Perhaps A
-perhaps b x = cond b (there x) absent
+abbrev pub perhaps : {A : Type 0} → Bool → A → Option A
+perhaps b x = cond b (Some x) None
 
 -- 1 where it is there, 0 where it is missing
-abbrev pub presence {ℓ} : {A : Type ℓ} → Perhaps A → ℕ
-presence (there x) = 1
-presence absent = 0
+abbrev pub presence : {A : Type 0} → Option A → ℕ
+presence (Some x) = 1
+presence None = 0

@@ -15,14 +15,13 @@ use Rattle.state.specs.declared.State.{State}
 use Rattle.driver.proofs.Limits.{packet_limits}
 use Rattle.text.proofs.Digits.{decimal_length}
 use Rattle.lines.specs.Lines.{cell_of, line_of, mark_line, mark_lines, section_lines, lines_of, jump_word, repeat_word, cut_word, section_word, refused_word, most}
-use Rattle.lines.specs.declared.Cell.{Cell}
-use Rattle.lines.specs.declared.Cell.TheVariants.{Number, Dash}
+use Rattle.std.specs.Prelude.{Option, Some, None}
 
-cell_short : (c : Cell) → length (cell_of c) ≤ 20
-cell_short (Number n) = decimal_length n
-cell_short Dash = omega arith
+cell_short : (c : Option ℕ) → length (cell_of c) ≤ 20
+cell_short (Some n) = decimal_length n
+cell_short None = omega arith
 
-line_short : (index : ℕ) (pid : Cell) (word : List ℕ) (number bytes : Cell) → length word ≤ 7 → length (line_of index pid word number bytes) ≤ 92
+line_short : (index : ℕ) (pid : Option ℕ) (word : List ℕ) (number bytes : Option ℕ) → length word ≤ 7 → length (line_of index pid word number bytes) ≤ 92
 line_short index pid word number bytes h =
     let i = decimal_length index in
     let p = cell_short pid in
@@ -30,27 +29,27 @@ line_short index pid word number bytes h =
     let b = cell_short bytes in
     simp length-append (omega arith)
 
-mark_short : (index pid : ℕ) (word : List ℕ) (is_so : Bool) (number : Cell) → length word ≤ 7 → length (mark_line index pid word is_so number) ≤ 92
-mark_short index pid word true number h = line_short index (Number pid) word number Dash h
+mark_short : (index pid : ℕ) (word : List ℕ) (is_so : Bool) (number : Option ℕ) → length word ≤ 7 → length (mark_line index pid word is_so number) ≤ 92
+mark_short index pid word true number h = line_short index (Some pid) word number None h
 mark_short index pid word false number h = omega arith
 
 marks_short : (index pid : ℕ) (s : Said) → length (mark_lines index pid s) ≤ 276
 marks_short index pid s =
-    let a = mark_short index pid jump_word s.jump Dash (omega arith) in
-    let b = mark_short index pid repeat_word s.repeat Dash (omega arith) in
-    let c = mark_short index pid cut_word (ltb 0 s.given_up) (Number s.given_up) (omega arith) in
+    let a = mark_short index pid jump_word s.jump None (omega arith) in
+    let b = mark_short index pid repeat_word s.repeat None (omega arith) in
+    let c = mark_short index pid cut_word (ltb 0 s.given_up) (Some s.given_up) (omega arith) in
     simp length-append (omega arith)
 
 sections_short : (index pid count : ℕ) (out : List ℕ) → length (section_lines index pid count out) ≤ count * 92
 sections_short index pid zero out = omega arith
 sections_short index pid (suc count) out =
-    let line = line_of index (Number pid) section_word (Number (table_of out)) (Number (section_size out)) in
-    let a = line_short index (Number pid) section_word (Number (table_of out)) (Number (section_size out)) (omega arith) in
+    let line = line_of index (Some pid) section_word (Some (table_of out)) (Some (section_size out)) in
+    let a = line_short index (Some pid) section_word (Some (table_of out)) (Some (section_size out)) (omega arith) in
     let b = sections_short index pid count (drop (section_size out) out) in
     rw (length-append line (section_lines index pid count (drop (section_size out) out))) (simp unary_clauses (omega arith))
 
 answer_short : (index pid : ℕ) (a : Answer Said) (out : List ℕ) → ((s : Said) → a ≡ given s → s.sections ≤ 61) → length (lines_of index pid a out) ≤ most
-answer_short index pid (refused n) out few = let l = line_short index Dash refused_word (Number n) Dash (omega arith) in omega arith
+answer_short index pid (refused n) out few = let l = line_short index None refused_word (Some n) None (omega arith) in omega arith
 answer_short index pid (given s) out few = go s.wanted
   where
     go : (b : Bool) → length (cond b (mark_lines index pid s ++ section_lines index pid s.sections out) []) ≤ most

@@ -1,6 +1,10 @@
 -- Document 01, "Examples": the listing program's loop over its reads, whatever they bring.
 use Rattle.std.specs.Prelude.{◌≡◌, Bool, true, false, cond, List, ℕ, take}
+use Rattle.state.specs.State.{fresh}
+use Rattle.state.specs.declared.Choice.TheVariants.{All}
+use Rattle.open_call.specs.Open.{open_of}
 use Rattle.pieces.specs.Input.{Between, Reading, Turn, turn_of, after_read, after_end}
+use Rattle.pieces.specs.Piece.{Held}
 use Rattle.pieces.specs.Turns.{EndsIn}
 use Rattle.pieces.specs.declared.reads.Brought.{Brought}
 
@@ -8,6 +12,12 @@ use Rattle.pieces.specs.declared.reads.Brought.{Brought}
 pub record ReadsBehind (rest : ℕ) (piece : List ℕ) (r : Brought) (piece' : List ℕ) : Type 0 where
   pub kept : take rest piece' ≡ take rest piece
   pub ends : EndsIn r rest piece'
+
+-- the beginning: a filter for all tables is open on PID 0, no packet came, and nothing was read
+pub record IsBegun (h : Held) : Type 0 where
+  pub state : h.work.state ≡ (open_of fresh 0 All).state
+  pub index : h.work.index ≡ 0
+  pub kept : h.kept ≡ 0
 
 -- a turn, whatever its read brings
 pub record TakesTurn (b : Between) (t : Turn) : Type 0 where

@@ -3,22 +3,25 @@
 
 ghost use Rattle.std.specs.Prelude.{◌≤◌, ◌<◌, ◌≡◌, length};
 ghost use Rattle.ground.specs.House.{packet_bytes};
-ghost use Rattle.pieces.specs.Piece.{beginning, told_piece};
+ghost use Rattle.pieces.specs.Piece.{told_held, told_read};
 ghost use Rattle.pieces.specs.Turns.{Fits, between_of, turn_in};
-ghost use Rattle.listing.specs.Listing.{ReadsBehind, TakesTurn, ListsInput};
+ghost use Rattle.listing.specs.Listing.{ReadsBehind, IsBegun, TakesTurn, ListsInput};
 
-use pieces::{Brought, Step};
+use pieces::{Brought, Piece, Work};
 use std::io;
 use std::io::{Read, Write};
+use text::Text;
 
 // Says on standard error what failed, and why.
+// It stands in each program, and `write` in two of them: a library's public call has a promise with one outcome (tools/promised), and none says what a file or a terminal does.
 fn fail(rt: HostRuntime, what: &str, error: io::Error) {
     let _ = eprintln!(rt; "{what}: {error}");
 }
 
-// Writes the text.
-fn write(rt: HostRuntime, text: &[u8], size: usize) -> bool {
-    match rt.stdout().write_all(text::first(text, size)) {
+// Writes the text; whether that was done.
+// It is no `Result`, here and below: what fails is said at once, and the contracts tell by a truth value whether the run goes on (`ListsInput`).
+fn write(rt: HostRuntime, text: &Text<'_>) -> bool {
+    match rt.stdout().write_all(text.written()) {
         Ok(()) => true,
         Err(error) => {
             fail(rt, "standard output", error);
@@ -28,11 +31,11 @@ fn write(rt: HostRuntime, text: &[u8], size: usize) -> bool {
 }
 
 // Reads on behind the bytes that are there.
-fn read_on(rt: HostRuntime, piece: &mut [u8], rest: usize) -> Brought
-    requires { rest ≤ length piece.old }
-    ensures { ReadsBehind rest piece.old result piece.new }
+fn read_on(rt: HostRuntime, piece: &mut [u8], kept: usize) -> Brought
+    requires { kept ≤ length piece.old }
+    ensures { ReadsBehind kept piece.old result piece.new }
 {
-    match rt.stdin().read(&mut piece[rest..]) {
+    match rt.stdin().read(&mut piece[kept..]) {
         Ok(0) => Brought::End,
         Ok(count) => Brought::Bytes(count),
         Err(error) => {
@@ -42,74 +45,69 @@ fn read_on(rt: HostRuntime, piece: &mut [u8], rest: usize) -> Brought
     }
 }
 
-// A read, what it brings listed, and the lines written.
+// A read, what it brings listed, and the lines written; whether to read on.
 fn read_and_list(
     rt: HostRuntime,
-    step: Step,
-    piece: &mut [u8],
-    store: &mut [u8],
-    out: &mut [u8],
-    sets: &mut [u32],
-    text: &mut [u8],
-) -> Step
-    requires fits { Fits piece.old text.old }
-    requires rest_short { step.rest < packet_bytes }
-    ensures rest_stays_short { result.rest < packet_bytes }
-    ensures takes_turn { TakesTurn (between_of step piece.old store.old out.old sets.old)
-        (turn_in (told_piece result piece.new store.new out.new sets.new text.new)) }
+    piece: &mut Piece<'_>,
+    work: &mut Work<'_>,
+    text: &mut Text<'_>,
+) -> bool
+    requires fits { Fits piece.old.bytes.now text.old.bytes.now }
+    requires rest_short { piece.old.kept < packet_bytes }
+    ensures still_fits { Fits piece.new.bytes.now text.new.bytes.now }
+    ensures rest_stays_short { piece.new.kept < packet_bytes }
+    ensures takes_turn { TakesTurn (between_of (told_held piece.old work.old))
+        (turn_in (told_read piece.new work.new text.new result)) }
 {
-    let brought = read_on(rt, piece, step.rest);
-    let mut next = pieces::list_read(step, brought, piece, store, out, sets, text);
-    let is_written = write(rt, text, next.progress.at);
-    next.is_on = next.is_on & is_written;
-    next
+    let brought = read_on(rt, piece.bytes, piece.kept);
+    let is_on = piece.list_read(brought, work, text);
+    let is_written = write(rt, text);
+    is_on & is_written
 }
 
-// The whole input listed, from a fresh state with a filter on PID 0.
-// A proved loop has to end, and nothing says that an input does, so it counts down from a number that no run uses up.
+// The whole input listed, from a fresh state with a filter on PID 0; whether it goes on.
+// A proved loop has to end, and nothing says that an input does, so it takes a number of turns that no run uses up.
 fn list_all(
     rt: HostRuntime,
-    piece: &mut [u8],
-    store: &mut [u8],
-    out: &mut [u8],
-    sets: &mut [u32],
-    text: &mut [u8],
-) -> Step
-    requires { Fits piece.old text.old }
-    ensures { ListsInput (between_of beginning piece.old store.old out.old sets.old)
-        (between_of result piece.new store.new out.new sets.new) result.is_on }
+    piece: &mut Piece<'_>,
+    work: &mut Work<'_>,
+    text: &mut Text<'_>,
+) -> bool
+    requires fits { Fits piece.old.bytes.now text.old.bytes.now }
+    requires begun { IsBegun (told_held piece.old work.old) }
+    ensures { ListsInput (between_of (told_held piece.old work.old))
+        (between_of (told_held piece.new work.new)) result }
 {
-    let mut step = pieces::begin();
-    let mut turns = u64::MAX;
-    while (0 < turns) & step.is_on {
-        step = read_and_list(rt, step, piece, store, out, sets, text);
-        turns -= 1;
+    for _ in 0..u64::MAX {
+        if !read_and_list(rt, piece, work, text) {
+            return false;
+        }
     }
-    step
+    true
 }
 
-// A piece of 64 packets.
-fn new_piece() -> [u8; 12032]
-    ensures { 12032 ≡ length result }
+// Zeros; only how many is promised, so that no proof spells them out. It stands in each program: no library here is about arrays.
+fn zeros<const N: usize>() -> [u8; N]
+    ensures { N ≡ length result }
 {
-    [0; 12032]
-}
-
-// A text that has room for the lines of 64 packets.
-fn new_text() -> [u8; 376832]
-    ensures { 376832 ≡ length result }
-{
-    [0; 376832]
+    [0; N]
 }
 
 fn main(rt: HostRuntime) {
-    let mut piece = new_piece();
+    // a piece of 64 packets, and room for their lines
+    let mut bytes = zeros::<12032>();
+    let mut room = zeros::<376832>();
     let mut store = [0u8; driver::STORE_BYTES];
     let mut out = [0u8; gather::LEAST_OUTPUT];
     let mut sets = [0u32; driver::LEAST_LIST];
-    let mut text = new_text();
-    let end = lines::header(&mut text, 0);
-    if write(rt, &text, end) {
-        list_all(rt, &mut piece, &mut store, &mut out, &mut sets, &mut text);
+    let mut text = Text::new(&mut room);
+    lines::header(&mut text);
+    if write(rt, &text) {
+        let mut work = pieces::begin(&mut store, &mut out, &mut sets);
+        let mut piece = Piece {
+            bytes: &mut bytes,
+            kept: 0,
+        };
+        list_all(rt, &mut piece, &mut work, &mut text);
     }
 }

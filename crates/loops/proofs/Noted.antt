@@ -7,29 +7,21 @@ use native.Mathlib.Nat.{not-suc-le-zero, add-zero}
 use native.Mathlib.Omega.{arith}
 use lib.ListN.{length, get_or, set, length-set}
 use lib.Seq.{get_or-set_same, get_or-set_other}
-use Rattle.ground.specs.Answer.{refused, given}
+use Rattle.ground.specs.Answer.{Answer, refused, given}
 use Rattle.ground.specs.Refusal.{Silent, First, ExactCall}
 use Rattle.ground.proofs.Answer.{given_same}
 use Rattle.ground.proofs.Judged.{mapped, judge_mapped, given_by, refused_by, exact_call}
-use Rattle.ground.proofs.Refusal
-use Rattle.ground.proofs.Refusal.{accepted}
+use Rattle.ground.proofs.Refused
+use Rattle.ground.proofs.Refused.{accepted}
 use Rattle.loops.specs.Loop.{Entry}
 use Rattle.loops.specs.Body.{streams_of, pmt_refusals, no_entry}
-use Rattle.loops.specs.Walk.{Found, told_walked, found_in, walk_of, placed, unnoted, Overview, unsurveyed, survey_of}
-use Rattle.loops.specs.Steps.{Leaves, leaves, leaves_in, run_of, told_run}
-use Rattle.loops.specs.declared.Walked.{Walked}
-use Rattle.loops.specs.declared.Walked.TheVariants as walked
+use Rattle.loops.specs.Walk.{Found, found_in, walk_of, placed, unnoted, Overview, unsurveyed, survey_of}
+use Rattle.loops.specs.Steps.{Leaves, leaves, leaves_in, run_of}
 
 -- the answer alone
-told_found : (r : Walked) (places : List ℕ) → told_walked r ≡ mapped (λ (n : Leaves). n.found) (told_run r places)
-told_found (walked.Whole entries descriptors place) places = refl
-told_found (walked.Refused n) places = refl
-
-pub run_walks : (r : Walked) (asked item : ℕ) (s places after : List ℕ) → told_run r after ≡ run_of asked item s places → told_walked r ≡ walk_of s asked item
-run_walks r asked item s places after e =
-    told_found r after
-    ∙ ap (mapped (λ (n : Leaves). n.found)) e
-    ∙ sym (judge_mapped (λ (n : Leaves). n.found) (pmt_refusals s) (leaves_in asked item s places))
+pub run_walks : (a : Answer Leaves) (asked item : ℕ) (s places : List ℕ) → a ≡ run_of asked item s places → mapped (λ (n : Leaves). n.found) a ≡ walk_of s asked item
+run_walks a asked item s places e =
+    ap (mapped (λ (n : Leaves). n.found)) e ∙ sym (judge_mapped (λ (n : Leaves). n.found) (pmt_refusals s) (leaves_in asked item s places))
 
 -- the answer with the places
 module _ (s : List ℕ) where
@@ -39,7 +31,7 @@ module _ (s : List ℕ) where
       accepted unsurveyed _ (pmt_refusals s) g.0 ∙ ap (λ (n : Leaves). record { answer = given n.found; places = n.places }) (sym g.1)
 
   pub survey_refused : (n : ℕ) → run_of 0 0 s unnoted ≡ refused n → survey_of s ≡ unsurveyed n
-  survey_refused n e = Refusal.refused unsurveyed _ n (pmt_refusals s) (refused_by (pmt_refusals s) (leaves_in 0 0 s unnoted) n e)
+  survey_refused n e = Refused.refused unsurveyed _ n (pmt_refusals s) (refused_by (pmt_refusals s) (leaves_in 0 0 s unnoted) n e)
 
 -- ---- back from what a survey says
 module _ (s : List ℕ) where

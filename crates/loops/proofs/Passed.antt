@@ -7,12 +7,10 @@ use Prim.Native.Nat.{ℕ, ◌-◌, ◌≤◌}
 use borrow.Author.Tests.{ltb-false, eqb-true, not-false}
 use lib.Dec.{eqb}
 use lib.ListN.{length}
-use Rattle.ground.specs.Answer.{given}
 use Rattle.ground.specs.Refusal.{Silent}
-use Rattle.ground.proofs.Judged.{given_by}
-use Rattle.ground.proofs.Refusal.{silent_both}
+use Rattle.ground.proofs.Refused.{silent_both}
 use Rattle.psi.specs.Section.{byte_at}
-use Rattle.psi.specs.Refusals.{shared, verdict_of}
+use Rattle.psi.specs.Refusals.{shared}
 use Rattle.psi.proofs.Passed.{Passed, passed}
 use Rattle.loops.specs.Body.{info_length, program_of, streams_of, pmt_own, pmt_loops, pmt_refusals}
 
@@ -30,9 +28,6 @@ pmt_fixed s q =
       number = eqb-true (byte_at s 6) 0 (not-false (eqb (byte_at s 6) 0) both.1.0);
       fits = ltb-false (length s - 16) (info_length s) both.1.1.1.1.0;
     }
-
-pub pmt_fine : (s : List ℕ) → verdict_of (shared 2 13 s ++ pmt_own s) ≡ given tt → PmtFixed s
-pmt_fine s e = pmt_fixed s (given_by (shared 2 13 s ++ pmt_own s) tt tt e).0
 
 pub record PmtPassed (s : List ℕ) : Type 0 where
   pub fixed : PmtFixed s

@@ -3,27 +3,41 @@
 use mathlib.Core.Path.{◌≡◌, refl, ◌∙◌, ap}
 use mathlib.Core.Bool.{Bool, true, false, cond, ◌&&◌}
 use mathlib.Core.List.{List}
-use Prim.Native.Nat.{ℕ, zero, suc, ◌+◌, ◌-◌, ◌/◌, ◌%◌, ◌≤◌, ◌<◌}
-use native.Mathlib.Nat.{not-suc-le-zero}
+use Prim.Native.Nat.{ℕ, ◌+◌, ◌-◌, ◌/◌, ◌%◌, ◌≤◌, ◌<◌}
+use borrow.Author.Tests.{eq-eqb, ne_eqb}
+use lib.Dec.{eqb}
 use lib.ListN.{length, get_or, take, drop, set}
 use lib.Seq.{slice}
 use Rattle.ground.specs.Answer.{Answer, refused, given}
+use Rattle.ground.proofs.Test.{and_false}
 use Rattle.psi.specs.Loop.{Loop, unfilled, onto}
 use Rattle.loops.specs.Loop.{Descriptor, Entry, descriptors_of, entries_of}
-use Rattle.loops.specs.Steps.{Met, met, found_all, Leaves, leaves, told_walk, begun, passed, seek_in, seek, walk_entries, walk_descriptors}
+use Rattle.loops.specs.Steps.{Met, met, found_all, Leaves, leaves, begun, passed, seek_in, seek, walk_entries, walk_descriptors}
 use Rattle.loops.specs.Walk.{placed}
 use Rattle.loops.proofs.Loop.{no_descriptors, lone_byte, overrun, descriptor}
 use Rattle.loops.proofs.Entries.{word_from, no_entries, entry_short, entry_bits, entry_over, entry_on}
 
--- a walker's number is 0 for the refusal, and else that of the loops
-pub told_none : (n count place : ℕ) (places : List ℕ) → n ≡ 0 → told_walk n count place places ≡ refused 26
-told_none n count place places e = rw e refl
-
-pub told_whole : (n count place : ℕ) (places : List ℕ) → 0 < n → told_walk n count place places ≡ given (leaves (found_all n (met count place)) places)
-told_whole zero count place places h = absurd (not-suc-le-zero h)
-told_whole (suc n) count place places h = refl
-
 module _ (asked item : ℕ) where
+  -- ---- what is noted at an entry and at a descriptor
+  module _ (number at : ℕ) (m : Met) where
+    pub begun_here : number ≡ asked → item ≡ 0 → begun asked item number at m ≡ met m.count at
+    begun_here h k = rw (eq-eqb number asked h, eq-eqb item 0 k) refl
+
+    pub begun_other : (item ≡ 0 → ⊥) → begun asked item number at m ≡ m
+    begun_other k = rw (ne_eqb item 0 k, and_false (eqb number asked)) refl
+
+    pub begun_elsewhere : (number ≡ asked → ⊥) → begun asked item number at m ≡ m
+    begun_elsewhere h = rw (ne_eqb number asked h) refl
+
+    pub passed_here : number ≡ asked → item ≡ m.count + 1 → passed asked item number at m ≡ met (m.count + 1) at
+    passed_here h k = rw (eq-eqb number asked h, eq-eqb item (m.count + 1) k) refl
+
+    pub passed_other : number ≡ asked → (item ≡ m.count + 1 → ⊥) → passed asked item number at m ≡ met (m.count + 1) m.place
+    passed_other h k = rw (eq-eqb number asked h, ne_eqb item (m.count + 1) k) refl
+
+    pub passed_elsewhere : (number ≡ asked → ⊥) → passed asked item number at m ≡ m
+    passed_elsewhere h = rw (ne_eqb number asked h) refl
+
   -- what the walk says of loops that were read
   abbrev said_entries : ℕ → Met → List ℕ → Loop Entry → Answer Leaves
   said_entries number m places es = cond es.fills (given (leaves (seek asked item number m es.items) (placed number places es.items))) (refused 26)

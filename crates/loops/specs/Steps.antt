@@ -1,14 +1,18 @@
 -- What only the private functions promise each other: no public promise and no claim reaches it, so nobody has to believe it.
 -- The walk over a PMT's body answers refusal 26 where a loop is not filled, else what it was asked to find.
-use Rattle.std.specs.Prelude.{cond, ◌&&◌, List, [], ◌∷◌, ℕ, zero, suc, ◌+◌, ◌-◌, eqb, drop}
+use Rattle.std.specs.Prelude.{Bool, cond, ◌&&◌, List, [], ◌∷◌, ℕ, ◌+◌, ◌-◌, eqb, drop}
 use Rattle.std.proofs.Math.Seq.{slice}
+use Rattle.std.specs.declared.result.Result.{Result}
 use Rattle.ground.specs.Answer.{Answer, refused, given}
 use Rattle.ground.specs.Refusal.{judge}
+use Rattle.ground.specs.Told.{told}
+use Rattle.ground.specs.declared.Refusal.{Refusal}
 use Rattle.loops.specs.Loop.{Descriptor, Entry, descriptors_of, entries_of}
 use Rattle.loops.specs.Body.{program_of, streams_of, pmt_loops, pmt_refusals}
-use Rattle.loops.specs.Walk.{Found, found, found_in, placed}
+use Rattle.loops.specs.Walk.{Found, found, found_by, found_in, placed, unnoted}
 use Rattle.loops.specs.declared.Walked.{Walked}
-use Rattle.loops.specs.declared.Walked.TheVariants as walked
+use Rattle.loops.specs.declared.Surveyed.{Surveyed}
+use Rattle.loops.specs.declared.walkers.Search.{Search}
 
 -- what was met of the loop asked for: how many descriptors, and the place of the item asked for
 pub record Met : Type 0 where
@@ -31,10 +35,17 @@ pub record Leaves : Type 0 where
 abbrev pub leaves : Found → List ℕ → Leaves
 leaves f places = record { found = f; places = places }
 
--- what the number says that a walker answers: there is at least the program's loop
-abbrev pub told_walk : ℕ → ℕ → ℕ → List ℕ → Answer Leaves
-told_walk zero count place places = refused 26
-told_walk (suc n) count place places = given (leaves (found_all (suc n) (met count place)) places)
+-- what was met, as the code has it
+abbrev pub met_by : Walked → Met
+met_by w = met w.descriptors w.place
+
+-- what the code found, with the places of the entries
+abbrev pub leaves_by : Surveyed → Leaves
+leaves_by r = leaves (found_by r.walked) r.places
+
+-- what a walker's answer says, with what it leaves: whether the loops are filled
+abbrev pub told_walk : Bool → Surveyed → Answer Leaves
+told_walk fills r = cond fills (given (leaves_by r)) (refused 26)
 
 -- the loop with the number `asked` is asked for, and in it an item: item 0 is the entry, item i + 1 its descriptor i
 module _ (asked item : ℕ) where
@@ -90,7 +101,14 @@ module _ (asked item : ℕ) where
   abbrev pub run_of : List ℕ → List ℕ → Answer Leaves
   run_of s places = judge refused (pmt_refusals s) (given (leaves_in s places))
 
--- what the answer of `run` says, with the places that it leaves
-abbrev pub told_run : Walked → List ℕ → Answer Leaves
-told_run (walked.Whole entries descriptors place) places = given (leaves (found entries descriptors place) places)
-told_run (walked.Refused n) places = refused n
+-- what the answer of `run` says, with what it leaves
+abbrev pub told_run : Result (Unit {0}) Refusal → Surveyed → Answer Leaves
+told_run r found = told (λ (whole : Unit {0}). leaves_by found) r
+
+-- nothing found yet
+abbrev pub nothing : Surveyed
+nothing = record { walked = record { entries = 0; descriptors = 0; place = 0 }; places = unnoted }
+
+-- a search that has found nothing yet
+abbrev pub begun_for : ℕ → ℕ → Search
+begun_for asked item = record { asked = asked; item = item; found = nothing }

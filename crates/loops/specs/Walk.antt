@@ -1,11 +1,13 @@
 -- What one walk over a PMT says: how many entries there are, and of one of its loops how many descriptors it has and where an item of it stands; or where all entries stand.
-use Rattle.std.specs.Prelude.{List, [], ◌∷◌, ℕ, zero, suc, ◌+◌, length, set, replicate}
+use Rattle.std.specs.Prelude.{List, [], ◌∷◌, ℕ, zero, suc, ◌+◌, length, set, replicate, Ok, Err}
+use Rattle.std.specs.declared.result.Result.{Result}
 use Rattle.ground.specs.Answer.{Answer, refused, given}
 use Rattle.ground.specs.Refusal.{judge}
+use Rattle.ground.specs.Told.{number_of, told}
+use Rattle.ground.specs.declared.Refusal.{Refusal}
 use Rattle.loops.specs.Loop.{Entry}
 use Rattle.loops.specs.Body.{streams_of, pmt_refusals, entry_at, loop_at, descriptor_at}
 use Rattle.loops.specs.declared.Walked.{Walked}
-use Rattle.loops.specs.declared.Walked.TheVariants as walked
 use Rattle.loops.specs.declared.Surveyed.{Surveyed}
 
 -- what a walk finds
@@ -17,10 +19,13 @@ pub record Found : Type 0 where
 abbrev pub found : ℕ → ℕ → ℕ → Found
 found entries descriptors place = record { entries = entries; descriptors = descriptors; place = place }
 
+-- what the code found
+abbrev pub found_by : Walked → Found
+found_by w = found w.entries w.descriptors w.place
+
 -- what `walk` answers
-abbrev pub told_walked : Walked → Answer Found
-told_walked (walked.Whole entries descriptors place) = given (found entries descriptors place)
-told_walked (walked.Refused n) = refused n
+abbrev pub told_walked : Result Walked Refusal → Answer Found
+told_walked = told found_by
 
 -- where an item of the loop with a number stands: item 0 is the entry that has the loop, and the program's loop has none; item i + 1 is descriptor i. 0 where there is none
 abbrev pub place_of : List ℕ → ℕ → ℕ → ℕ
@@ -51,13 +56,14 @@ pub record Overview : Type 0 where
   pub answer : Answer Found
   pub places : List ℕ
 
--- what `survey` answers
-abbrev pub told_survey : Surveyed → Overview
-told_survey r = record { answer = told_walked r.walked; places = r.places }
-
 -- "A refusal gives its number alone"
 abbrev pub unsurveyed : ℕ → Overview
 unsurveyed n = record { answer = refused n; places = unnoted }
+
+-- what `survey` answers
+abbrev pub told_survey : Result Surveyed Refusal → Overview
+told_survey (Ok r) = record { answer = given (found_by r.walked); places = r.places }
+told_survey (Err e) = unsurveyed (number_of e)
 
 -- what is found of the program's loop, and all entries; or the first refusal that applies
 abbrev pub survey_of : List ℕ → Overview

@@ -3,36 +3,33 @@
 
 mod walkers;
 
-ghost use Rattle.std.specs.Prelude.{◌≡◌, ◌++◌, ◌-◌, ◌≤◌, length};
+ghost use Rattle.std.specs.Prelude.{◌≡◌, ◌++◌, ◌≤◌, length};
 ghost use Rattle.psi.specs.Answers.{told_judged};
 ghost use Rattle.psi.specs.Refusals.{shared, verdict_of};
-ghost use Rattle.loops.specs.Body.{info_length, pmt_own};
+ghost use Rattle.loops.specs.Body.{pmt_own};
 ghost use Rattle.loops.specs.Promises.{Walks, Surveys};
-ghost use Rattle.loops.specs.Steps.{told_walk, body_walked_of, told_run, run_of};
+ghost use Rattle.loops.specs.Steps.{nothing, begun_for, told_run, run_of};
 ghost use Rattle.loops.specs.Walk.{unnoted};
 
-use crate::walkers::descriptors;
+use crate::walkers::Search;
+use ground::Refusal;
 use octets::number_of_two;
-use psi::Judged;
 
 // How many descriptor loops a PMT can have: the program's, and one of each of 201 entries.
 const LOOPS: usize = 202;
 
-// The place of each entry by the number of its loop: the program's loop has number 0, that of entry i has i + 1.
+// The place of each entry by the number of its loop: the program's loop has number 0, that of entry i has i + 1. How many count is told beside them: there is no heap.
 pub type Places = [u16; LOOPS];
 
 // What walking over a section found: how many entries there are; of the loop asked for, how many descriptors it has and the place of the item asked for.
 #[derive(Clone, Copy)]
-pub enum Walked {
-    Whole {
-        entries: usize,
-        descriptors: usize,
-        place: usize,
-    },
-    Refused(u8),
+pub struct Walked {
+    pub entries: usize,
+    pub descriptors: usize,
+    pub place: usize,
 }
 
-// What walking over a section found, and where each entry stands; after a refusal no place is noted.
+// What walking over a section found, and where each entry stands.
 #[derive(Clone, Copy)]
 pub struct Surveyed {
     pub walked: Walked,
@@ -40,77 +37,26 @@ pub struct Surveyed {
 }
 
 // Judges a section that has room for CRC_32 behind its header by what is a PMT's own, but for its loops.
-fn judge_own(s: &[u8]) -> Judged
+fn judge_own(s: &[u8]) -> Result<(), Refusal>
     requires { 16 ≤ length s.now }
     ensures { told_judged result ≡ verdict_of (pmt_own s.now) }
 {
-    if s[6] != 0 {
-        return Judged::Refused(24);
-    }
-    if s[7] != 0 {
-        return Judged::Refused(24);
-    }
     let w = number_of_two(s[10], s[11]);
-    if w / 1024 % 4 != 0 {
-        return Judged::Refused(26);
+    if s[6] != 0 || s[7] != 0 {
+        Err(Refusal::SectionNumber)
+    } else if w / 1024 % 4 != 0 || s.len() - 16 < usize::from(w % 4096) {
+        Err(Refusal::InnerLength)
+    } else {
+        Ok(())
     }
-    if s.len() - 16 < (w % 4096) as usize {
-        return Judged::Refused(26);
-    }
-    Judged::Fine
 }
 
 // Judges a section asked for as a PMT by all but its loops.
-fn judge(s: &[u8]) -> Judged
+fn judge(s: &[u8]) -> Result<(), Refusal>
     ensures { told_judged result ≡ verdict_of (shared 2 13 s.now ++ pmt_own s.now) }
 {
-    let shared = psi::judge(s, 2, 13);
-    match shared {
-        Judged::Refused(n) => Judged::Refused(n),
-        Judged::Fine => judge_own(s),
-    }
-}
-
-// Walks over the body of a section whose program_info_length fits, and answers as the walkers do.
-fn walk_body(
-    s: &[u8],
-    asked: usize,
-    item: usize,
-    count: &mut usize,
-    place: &mut usize,
-    places: &mut Places,
-) -> usize
-    requires { (16 ≤ length s.now) × (length s.now ≤ 1024) × (info_length s.now ≤ length s.now - 16) × (count.old ≡ 0) × (place.old ≡ 0) }
-    ensures { told_walk result count.new place.new places.new ≡ body_walked_of asked item s.now places.old }
-{
-    let n = (number_of_two(s[10], s[11]) % 4096) as usize;
-    let end = s.len() - 4;
-    let body = &s[..end];
-    descriptors(&body, 12, 12 + n, 0, asked, item, count, place, places)
-}
-
-// Judges a section asked for as a PMT, finds an item of the loop `asked` for, and notes the places of the entries.
-fn run(section: &[u8], asked: usize, item: usize, places: &mut Places) -> Walked
-    ensures { told_run result places.new ≡ run_of asked item section.now places.old }
-{
-    let verdict = judge(section);
-    match verdict {
-        Judged::Refused(n) => Walked::Refused(n),
-        Judged::Fine => {
-            let mut count = 0;
-            let mut place = 0;
-            let loops = walk_body(section, asked, item, &mut count, &mut place, places);
-            if loops == 0 {
-                return Walked::Refused(26);
-            }
-            let entries = loops - 1;
-            Walked::Whole {
-                entries,
-                descriptors: count,
-                place,
-            }
-        }
-    }
+    psi::judge(s, 2, 13)?;
+    judge_own(s)
 }
 
 // No place noted.
@@ -120,25 +66,53 @@ fn unnoted() -> Places
     [0; LOOPS]
 }
 
+// A search that has found nothing yet.
+fn begun(asked: usize, item: usize) -> Search
+    ensures { result ≡ begun_for asked item }
+{
+    Search {
+        asked,
+        item,
+        found: Surveyed {
+            walked: Walked {
+                entries: 0,
+                descriptors: 0,
+                place: 0,
+            },
+            places: unnoted(),
+        },
+    }
+}
+
+// Judges a section asked for as a PMT, and searches it.
+fn run(section: &[u8], search: &mut Search) -> Result<(), Refusal>
+    requires { search.old.found ≡ nothing }
+    ensures { told_run result search.new.found ≡ run_of search.old.asked search.old.item section.now unnoted }
+{
+    judge(section)?;
+    let n = usize::from(number_of_two(section[10], section[11]) % 4096);
+    if search.descriptors(&section[..section.len() - 4], 12, 12 + n, 0) {
+        Ok(())
+    } else {
+        Err(Refusal::InnerLength)
+    }
+}
+
 // Judges a section asked for as a PMT, and finds an item of the loop `asked` for: item 0 is the entry, item i + 1 its descriptor i.
-pub fn walk(section: &[u8], asked: usize, item: usize) -> Walked
+// The item is one number, as its definition has it (`place_of`): an Option would say it no plainer.
+pub fn walk(section: &[u8], asked: usize, item: usize) -> Result<Walked, Refusal>
     ensures { Walks section.now asked item result }
 {
-    let mut places = unnoted();
-    run(section, asked, item, &mut places)
+    let mut search = begun(asked, item);
+    run(section, &mut search)?;
+    Ok(search.found.walked)
 }
 
 // Judges a section asked for as a PMT, and finds all its entries.
-pub fn survey(section: &[u8]) -> Surveyed
+pub fn survey(section: &[u8]) -> Result<Surveyed, Refusal>
     ensures { Surveys section.now result }
 {
-    let mut places = unnoted();
-    let walked = run(section, 0, 0, &mut places);
-    match walked {
-        Walked::Refused(_) => Surveyed {
-            walked,
-            places: unnoted(),
-        },
-        Walked::Whole { .. } => Surveyed { walked, places },
-    }
+    let mut search = begun(0, 0);
+    run(section, &mut search)?;
+    Ok(search.found)
 }

@@ -1,3 +1,4 @@
 pub mod Open
+pub mod Steps
 pub mod Promises
 pub mod Claims

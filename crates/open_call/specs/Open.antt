@@ -1,5 +1,8 @@
 -- Document 01, "Filters and areas": open.
 use Rattle.std.specs.Prelude.{Bool, cond, not, List, [], ◌∷◌, ℕ, ◌+◌, ltb, leb, length, get_or, set}
+use Rattle.std.specs.declared.result.Result.{Result}
+use Rattle.ground.specs.declared.Refusal.{Refusal}
+use Rattle.ground.specs.Told.{told}
 use Rattle.ground.specs.House.{last_number, last_filter_pid}
 use Rattle.ground.specs.Answer.{Answer, refused, given}
 use Rattle.ground.specs.Refusal.{Row, judge, ◌when◌}
@@ -9,26 +12,28 @@ use Rattle.state.specs.declared.Area.{Area}
 use Rattle.state.specs.declared.Choice.{Choice}
 use Rattle.state.specs.declared.State.{State}
 use Rattle.sound.specs.Sound.{sound}
-use Rattle.open_call.specs.declared.Opened.{Opened}
+use Rattle.state.specs.declared.After.{After}
 use Rattle.open_call.specs.declared.Opening.{Opening}
-use Rattle.open_call.specs.declared.Opening.TheVariants as opening
 
 -- "It answers number and place"
 pub record Place : Type 0 where
   pub number : ℕ
   pub place : ℕ
 
+-- a filter that was opened, by its numbers
+abbrev pub told_place : Opening → Place
+told_place o = record { number = o.number; place = o.place }
+
 -- what an open says in document 01's terms
-abbrev pub told_opening : Opening → Answer Place
-told_opening (opening.Open number place) = given (record { number = number; place = place })
-told_opening (opening.Refused n) = refused n
+abbrev pub told_opening : Result Opening Refusal → Answer Place
+told_opening r = told told_place r
 
 -- the answer, and the state after it
 pub record AfterOpen : Type 0 where
   pub answer : Answer Place
   pub state : State
 
-abbrev pub told_opened : Opened → AfterOpen
+abbrev pub told_opened : After (Result Opening Refusal) → AfterOpen
 told_opened o = record { answer = told_opening o.answer; state = o.state }
 
 -- the PID has an area

@@ -16,7 +16,7 @@ use Rattle.ground.proofs.Test.{both_true}
 use Rattle.clock.proofs.Field.{reference_of_lt}
 use Rattle.clock.specs.Range.{reference_turn}
 use Rattle.clock.specs.Reference.{extension_of, reference_of}
-use Rattle.ground.specs.Perhaps.{there}
+use Rattle.std.specs.Prelude.{Some}
 use Rattle.packet.specs.Part.{Span, part_at, part_size}
 use Rattle.packet.specs.Extension.{is_cramped}
 use Rattle.packet.specs.Adaptation.{extension_part, value_refusals, has_field, has_flags, flags_of, length_of, is_wrong_clock, is_over, clock_at, private_place, extension_place, fields_end}
@@ -36,7 +36,7 @@ clock_small s i true e v h =
 clock_small s i false e v h = let z : ◌≡◌ {A = ℕ} 0 1 = cc in absurd (omega arith)
 
 -- ---- private data and extension
-part_end : (s : List ℕ) (i : ℕ) (flagged : Bool) (span : Span) → part_at s i flagged ≡ there span → span.start + span.size ≡ i + part_size (part_at s i flagged)
+part_end : (s : List ℕ) (i : ℕ) (flagged : Bool) (span : Span) → part_at s i flagged ≡ Some span → span.start + span.size ≡ i + part_size (part_at s i flagged)
 part_end s i true span h =
     let start : i + 1 ≡ span.start = cc in
     let size : get_or s i 0 ≡ span.size = cc in
@@ -48,7 +48,7 @@ module _ (s : List ℕ) where
   abbrev flags_if : Bool → ℕ
   flags_if b = cond b (get_or s 5 0) 0
 
-  own_inside : (b : Bool) → (b && is_over s (flags_if b)) ≡ false → (span : Span) → part_at s (private_place (flags_if b)) (is_flagged (flags_if b) 1) ≡ there span
+  own_inside : (b : Bool) → (b && is_over s (flags_if b)) ≡ false → (span : Span) → part_at s (private_place (flags_if b)) (is_flagged (flags_if b) 1) ≡ Some span
       → (b ≡ true) × (span.start + span.size ≤ 5 + length_of s)
   own_inside true e span h =
       let fit = ltb-false (5 + length_of s) (fields_end s (get_or s 5 0)) e in
@@ -56,7 +56,7 @@ module _ (s : List ℕ) where
       (refl, omega arith)
   own_inside false e span h = let z : ◌≡◌ {A = ℕ} 0 1 = cc in absurd (omega arith)
 
-  pub extension_inside : (b : Bool) → (b && is_over s (flags_if b)) ≡ false → (span : Span) → part_at s (extension_place s (flags_if b)) (is_flagged (flags_if b) 0) ≡ there span
+  pub extension_inside : (b : Bool) → (b && is_over s (flags_if b)) ≡ false → (span : Span) → part_at s (extension_place s (flags_if b)) (is_flagged (flags_if b) 0) ≡ Some span
       → (b ≡ true) × (span.start + span.size ≤ 5 + length_of s)
   extension_inside true e span h =
       let fit = ltb-false (5 + length_of s) (fields_end s (get_or s 5 0)) e in
@@ -128,8 +128,8 @@ accepted s p e =
 
 pub nothing_lost : NothingLost
 nothing_lost s p b e span h =
-    subst (λ (q : Contents). q.field.extension ≡ there span → Spelt s span.start (extended_of q.field)) (sym passed.1)
-    (λ there. extended_again s b (extension_part s (flags_of (control_of (header_of s)) s)) rows.1.1.1.1.1.1.0 rows.1.1.1.1.1.1.1.1.1.0 span there ends) h
+    subst (λ (q : Contents). q.field.extension ≡ Some span → Spelt s span.start (extended_of q.field)) (sym passed.1)
+    (λ Some. extended_again s b (extension_part s (flags_of (control_of (header_of s)) s)) rows.1.1.1.1.1.1.0 rows.1.1.1.1.1.1.1.1.1.0 span Some ends) h
   where
     passed : Silent (packet_refusals s) × (p ≡ contents s)
     passed = given_by (packet_refusals s) (contents s) p e

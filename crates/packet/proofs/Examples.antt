@@ -7,7 +7,7 @@ use Prim.Native.Nat.{ℕ}
 use lib.IntN.{negsuc}
 use lib.ListN.{replicate}
 use Rattle.ground.specs.Answer.{given}
-use Rattle.ground.specs.Perhaps.{there, absent}
+use Rattle.std.specs.Prelude.{Some, None}
 use Rattle.packet.specs.Steps.{bare_field}
 use Rattle.packet.specs.Part.{Span}
 use Rattle.packet.specs.Extension.{Extended}
@@ -18,7 +18,7 @@ use Rattle.packet.specs.Payload.{payload_start}
 abbrev pub section : List ℕ
 section = 0x47 ∷ 0x40 ∷ 0x00 ∷ 0x10 ∷ 0x00 ∷ 0x80 ∷ 0x30 ∷ 0x01 ∷ 0xAA ∷ replicate 179 0xFF
 
-pub section_read : read_packet section ≡ given (record { unit_start = true; priority = false; pid = 0; scrambling = 0; control = 1; counter = 0; field = bare_field absent })
+pub section_read : read_packet section ≡ given (record { unit_start = true; priority = false; pid = 0; scrambling = 0; control = 1; counter = 0; field = bare_field None })
 section_read = refl
 
 pub section_payload : payload_start section ≡ 4
@@ -36,18 +36,18 @@ pub clock_read : read_packet clock ≡ given (record {
   control = 2;
   counter = 15;
   field = record {
-    size = there 183;
+    size = Some 183;
     discontinuity = false;
     random_access = false;
     stream_priority = false;
-    pcr = there 27000000;
-    opcr = absent;
-    countdown = absent;
-    private_data = absent;
-    extension = absent;
-    window = absent;
-    rate = absent;
-    splice = absent;
+    pcr = Some 27000000;
+    opcr = None;
+    countdown = None;
+    private_data = None;
+    extension = None;
+    window = None;
+    rate = None;
+    splice = None;
   };
 })
 clock_read = refl
@@ -75,18 +75,18 @@ pub full_read : read_packet full ≡ given (record {
   control = 3;
   counter = 1;
   field = record {
-    size = there 20;
+    size = Some 20;
     discontinuity = true;
     random_access = true;
     stream_priority = true;
-    pcr = there 2576980377599;
-    opcr = there 0;
-    countdown = there (negsuc 0);
-    private_data = there (record { start = 20; size = 2 });
-    extension = there (record { start = 23; size = 1 });
-    window = absent;
-    rate = absent;
-    splice = absent;
+    pcr = Some 2576980377599;
+    opcr = Some 0;
+    countdown = Some (negsuc 0);
+    private_data = Some (record { start = 20; size = 2 });
+    extension = Some (record { start = 23; size = 1 });
+    window = None;
+    rate = None;
+    splice = None;
   };
 })
 full_read = refl
@@ -105,15 +105,15 @@ extending size extension x =
       control = 3;
       counter = 0;
       field = record {
-        size = there size;
+        size = Some size;
         discontinuity = false;
         random_access = false;
         stream_priority = false;
-        pcr = absent;
-        opcr = absent;
-        countdown = absent;
-        private_data = absent;
-        extension = there extension;
+        pcr = None;
+        opcr = None;
+        countdown = None;
+        private_data = None;
+        extension = Some extension;
         window = x.window;
         rate = x.rate;
         splice = x.splice;
@@ -131,9 +131,9 @@ extended =
     ∷ replicate 170 0xFF
 
 pub extended_read : read_packet extended ≡ given (extending 13 (record { start = 7; size = 11 }) (record {
-  window = there (record { valid = true; offset = 4660 });
-  rate = there 2800862;
-  splice = there (record { splice_type = 5; stamp = 90000 });
+  window = Some (record { valid = true; offset = 4660 });
+  rate = Some 2800862;
+  splice = Some (record { splice_type = 5; stamp = 90000 });
 }))
 extended_read = refl
 
@@ -150,9 +150,9 @@ spliced =
     ∷ replicate 173 0xFF
 
 pub spliced_read : read_packet spliced ≡ given (extending 10 (record { start = 7; size = 8 }) (record {
-  window = absent;
-  rate = absent;
-  splice = there (record { splice_type = 0; stamp = 8589934591 });
+  window = None;
+  rate = None;
+  splice = Some (record { splice_type = 0; stamp = 8589934591 });
 }))
 spliced_read = refl
 

@@ -10,7 +10,9 @@ use native.Mathlib.Omega.{arith}
 use borrow.Author.Tests.{ltb-false}
 use lib.ListN.{length, get_or}
 use Rattle.ground.specs.Number.{Bytes, bits, is_flagged, bytes_of, number_at}
-use Rattle.ground.specs.Perhaps.{Perhaps, there, absent, perhaps, presence}
+use Rattle.std.specs.declared.option.Option.{Option}
+use Rattle.std.specs.Prelude.{Some, None}
+use Rattle.ground.specs.Perhaps.{perhaps, presence}
 use Rattle.ground.proofs.Field.{bits_lt, flag_bit, pack-unpack}
 use Rattle.ground.proofs.Number.{length-bytes_of, bytes-number_at, number_at_lt}
 use Rattle.ground.proofs.Part.{Standing, standing_both}
@@ -29,37 +31,37 @@ presence_bit x after y = presence_of (is_flagged x after) y ∙ flag_bit x after
 
 -- ---- each part is there exactly if the extension and its flag are
 module _ (s : List ℕ) (after : ℕ) where
-  none_flagged : (◌≡◌ {A = ℕ} 0 1) ↔ Flagged s absent after
+  none_flagged : (◌≡◌ {A = ℕ} 0 1) ↔ Flagged s None after
   none_flagged = (λ e. absurd (omega arith), λ f. let e = f.1.0 in cc)
 
-  one_flagged : {A : Type 0} (span : Span) (y : A) → (presence (perhaps (is_flagged (get_or s span.start 0) after) y) ≡ 1) ↔ Flagged s (there span) after
+  one_flagged : {A : Type 0} (span : Span) (y : A) → (presence (perhaps (is_flagged (get_or s span.start 0) after) y) ≡ 1) ↔ Flagged s (Some span) after
   one_flagged span y = (to, from)
     where
-      to : presence (perhaps (is_flagged (get_or s span.start 0) after) y) ≡ 1 → Flagged s (there span) after
+      to : presence (perhaps (is_flagged (get_or s span.start 0) after) y) ≡ 1 → Flagged s (Some span) after
       to h = (span, (refl, (presence_exactly (is_flagged (get_or s span.start 0) after) y).0 h))
 
-      from : Flagged s (there span) after → presence (perhaps (is_flagged (get_or s span.start 0) after) y) ≡ 1
+      from : Flagged s (Some span) after → presence (perhaps (is_flagged (get_or s span.start 0) after) y) ≡ 1
       from (other, (e, flagged)) =
           let same : other ≡ span = cc in
           (presence_exactly (is_flagged (get_or s span.start 0) after) y).1 (rw same at flagged)
 
 -- the three of them
-pub there_exactly : (s : List ℕ) (e : Perhaps Span)
+pub there_exactly : (s : List ℕ) (e : Option Span)
     → ((presence (extended_in s e).window ≡ 1) ↔ Flagged s e 7)
     × ((presence (extended_in s e).rate ≡ 1) ↔ Flagged s e 6)
     × ((presence (extended_in s e).splice ≡ 1) ↔ Flagged s e 5)
-there_exactly s absent = (none_flagged s 7, none_flagged s 6, none_flagged s 5)
-there_exactly s (there span) = (one_flagged s 7 span _, one_flagged s 6 span _, one_flagged s 5 span _)
+there_exactly s None = (none_flagged s 7, none_flagged s 6, none_flagged s 5)
+there_exactly s (Some span) = (one_flagged s 7 span _, one_flagged s 6 span _, one_flagged s 5 span _)
 
 -- ---- what is told fits its bits, and the parts lie inside n
-pub ranged : (s : List ℕ) (e : Perhaps Span) → Ranged (extended_in s e)
-ranged s absent =
+pub ranged : (s : List ℕ) (e : Option Span) → Ranged (extended_in s e)
+ranged s None =
     record {
       window = λ w h. absurd (none_there w h);
       rate = λ n h. absurd (none_there n h);
       splice = λ y h. absurd (none_there y h);
     }
-ranged s (there span) =
+ranged s (Some span) =
     record {
       window = if_there (λ (w : LegalWindow). w.offset < 2 ^ 15) (is_flagged x 7) (window_of (number_at s (i + 1) 2)) (bits_lt (number_at s (i + 1) 2) 0 15);
       rate = if_there (λ (n : ℕ). n < 2 ^ 22) (is_flagged x 6) (rate_of (number_at s (rate_place i x) 3)) (bits_lt (number_at s (rate_place i x) 3) 0 22);
@@ -77,9 +79,9 @@ ranged s (there span) =
 told_size_lem : (s : List ℕ) (i x : ℕ) → told_size (extended_at s i x) ≡ flagged_size x
 told_size_lem s i x = rw (presence_bit x 7, presence_bit x 6, presence_bit x 5)
 
-pub told_inside : (s : List ℕ) (e : Perhaps Span) → is_cramped s e ≡ false → (span : Span) → e ≡ there span → told_size (extended_in s e) ≤ span.size
-told_inside s absent c span h = absurd (none_there span h)
-told_inside s (there own) c span h =
+pub told_inside : (s : List ℕ) (e : Option Span) → is_cramped s e ≡ false → (span : Span) → e ≡ Some span → told_size (extended_in s e) ≤ span.size
+told_inside s None c span h = absurd (none_there span h)
+told_inside s (Some own) c span h =
     let same : own ≡ span = cc in
     rw (told_size_lem s own.start (get_or s own.start 0), ← same) (ltb-false own.size (flagged_size (get_or s own.start 0)) c)
 
@@ -100,9 +102,9 @@ flags_again s i x h =
 
 -- ---- in a list of bytes what is told stands where it is read
 -- a part that may be missing takes its bytes where it is there
-pub spelt_size : {A : Type 0} (bytes : A → List ℕ) (k : ℕ) → ((z : A) → length (bytes z) ≡ k) → (y : Perhaps A) → length (spelt bytes y) ≡ k * presence y
-spelt_size bytes k e (there z) = let size = e z in omega arith
-spelt_size bytes k e absent = omega arith
+pub spelt_size : {A : Type 0} (bytes : A → List ℕ) (k : ℕ) → ((z : A) → length (bytes z) ≡ k) → (y : Option A) → length (spelt bytes y) ≡ k * presence y
+spelt_size bytes k e (Some z) = let size = e z in omega arith
+spelt_size bytes k e None = omega arith
 
 module _ (s : List ℕ) (b : Bytes s) where
   -- a number
@@ -173,10 +175,10 @@ module _ (s : List ℕ) (b : Bytes s) where
         second = ap (λ (n : ℕ). rate_place i x + n) (spelt_size (rate_bytes reserved) 3 (λ n. refl) (extended_at s i x).rate ∙ ap (λ (n : ℕ). 3 * n) (presence_bit x 6 _))
 
 -- of an extension that may be missing
-pub extended_again : (s : List ℕ) → Bytes s → (e : Perhaps Span) → is_cramped s e ≡ false → has_wrong_splice s e ≡ false
-    → (span : Span) → e ≡ there span → span.start + span.size ≤ length s → Spelt s span.start (extended_in s e)
-extended_again s b absent roomy marked span h inside = absurd (none_there span h)
-extended_again s b (there own) roomy marked span h inside =
+pub extended_again : (s : List ℕ) → Bytes s → (e : Option Span) → is_cramped s e ≡ false → has_wrong_splice s e ≡ false
+    → (span : Span) → e ≡ Some span → span.start + span.size ≤ length s → Spelt s span.start (extended_in s e)
+extended_again s b None roomy marked span h inside = absurd (none_there span h)
+extended_again s b (Some own) roomy marked span h inside =
     let same : span ≡ own = cc in
     let room = ltb-false own.size (flagged_size (get_or s own.start 0)) roomy in
     let ends : own.start + own.size ≤ length s = rw same at inside in

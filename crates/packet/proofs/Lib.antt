@@ -1,6 +1,5 @@
 pub mod Clock
 pub mod Splice
-pub mod Signed
 pub mod Flagged
 pub mod Field
 pub mod Header

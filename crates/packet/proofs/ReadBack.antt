@@ -11,14 +11,16 @@ use lib.Dec.{eqb, lit<}
 use lib.ListN.{length, get_or}
 use Rattle.ground.specs.Number.{Field, field, pack, bits, is_flagged, bytes_of, number_of, number_at}
 use Rattle.ground.specs.Answer.{refused, given}
-use Rattle.ground.specs.Perhaps.{Perhaps, there, absent, perhaps, presence}
+use Rattle.std.specs.declared.option.Option.{Option}
+use Rattle.std.specs.Prelude.{Some, None}
+use Rattle.ground.specs.Perhaps.{perhaps, presence}
 use Rattle.ground.specs.Refusal.{Silent}
 use Rattle.ground.specs.Walk.{Every}
 use Rattle.ground.proofs.Field.{Fitting, value_at, pack_lt, unpack-pack}
 use Rattle.ground.proofs.Number.{length-bytes_of, bytes_at_part, number_bytes}
 use Rattle.ground.proofs.Part.{Standing, standing_split}
 use Rattle.ground.proofs.Perhaps.{presence_lt}
-use Rattle.ground.proofs.Refusal.{accepted}
+use Rattle.ground.proofs.Refused.{accepted}
 use Rattle.ground.proofs.Test.{both_true, and_false}
 use Rattle.clock.specs.Range.{stamp_turn}
 use Rattle.clock.specs.Stamp.{stamp_field, lacks_marker}
@@ -62,13 +64,13 @@ module _ (s : List ℕ) where
   -- a number that stands at a place is read there
   number_standing : (i k n : ℕ) → i + k ≤ length s → n < 256 ^ k → Standing s i (bytes_of k n) → number_at s i k ≡ n
   number_standing i k n room small h =
-      let there = rw (length-bytes_of k n) at h in
-      ap number_of (bytes_at_part s i k room ∙ there) ∙ number_bytes k n small
+      let Some = rw (length-bytes_of k n) at h in
+      ap number_of (bytes_at_part s i k room ∙ Some) ∙ number_bytes k n small
 
   -- a part is there where its flag says, with the value that is read at its place
-  part_back : {A : Type 0} (f after : ℕ) (z : A) (y : Perhaps A) → bits f after 1 ≡ presence y → ((own : A) → y ≡ there own → z ≡ own) → perhaps (is_flagged f after) z ≡ y
-  part_back f after z (there own) e same = rw (eq-eqb (bits f after 1) 1 e) (ap there (same own refl))
-  part_back f after z absent e same = rw (ne_eqb (bits f after 1) 1 (λ q. omega arith))
+  part_back : {A : Type 0} (f after : ℕ) (z : A) (y : Option A) → bits f after 1 ≡ presence y → ((own : A) → y ≡ Some own → z ≡ own) → perhaps (is_flagged f after) z ≡ y
+  part_back f after z (Some own) e same = rw (eq-eqb (bits f after 1) 1 e) (ap Some (same own refl))
+  part_back f after z None e same = rw (ne_eqb (bits f after 1) 1 (λ q. omega arith))
 
   -- the whole extension
   module _ (i : ℕ) (x : Extended) (ranged : Ranged x) (room : i + told_size x ≤ length s) (told : Spelt s i x) where
@@ -129,28 +131,28 @@ module _ (s : List ℕ) where
     size_back = rw (window_bit, rate_bit, splice_bit)
 
     -- and their numbers are those that were written
-    window_number : (w : LegalWindow) → x.window ≡ there w → number_at s (i + 1) 2 ≡ pack (window_fields w)
+    window_number : (w : LegalWindow) → x.window ≡ Some w → number_at s (i + 1) 2 ≡ pack (window_fields w)
     window_number w e =
         let one : presence x.window ≡ 1 = ap presence e in
         number_standing (i + 1) 2 (pack (window_fields w)) (omega arith) (pack_lt (window_fields w) (bit_lt w.valid, (ranged.window w e, tt)))
-        (subst (λ (y : Perhaps LegalWindow). Standing s (i + 1) (spelt window_bytes y)) e second.0)
+        (subst (λ (y : Option LegalWindow). Standing s (i + 1) (spelt window_bytes y)) e second.0)
 
-    rate_number : (n : ℕ) → x.rate ≡ there n → number_at s (rate_place i f) 3 ≡ pack (field 2 told.of_rate ∷ field 22 n ∷ [])
+    rate_number : (n : ℕ) → x.rate ≡ Some n → number_at s (rate_place i f) 3 ≡ pack (field 2 told.of_rate ∷ field 22 n ∷ [])
     rate_number n e =
         let one : presence x.rate ≡ 1 = ap presence e in
         let place = window_bit in
         number_standing (rate_place i f) 3 (pack (field 2 told.of_rate ∷ field 22 n ∷ [])) (omega arith)
         (pack_lt (field 2 told.of_rate ∷ field 22 n ∷ []) (told.two_bits, (ranged.rate n e, tt)))
-        (subst (λ (y : Perhaps ℕ). Standing s (rate_place i f) (spelt (rate_bytes told.of_rate) y)) e (rw rate_place_lem at third.0))
+        (subst (λ (y : Option ℕ). Standing s (rate_place i f) (spelt (rate_bytes told.of_rate) y)) e (rw rate_place_lem at third.0))
 
-    splice_number : (y : SeamlessSplice) → x.splice ≡ there y → number_at s (splice_place i f) 5 ≡ stamp_field y.splice_type y.stamp
+    splice_number : (y : SeamlessSplice) → x.splice ≡ Some y → number_at s (splice_place i f) 5 ≡ stamp_field y.splice_type y.stamp
     splice_number y e =
         let one : presence x.splice ≡ 1 = ap presence e in
         let place = window_bit in
         let further = rate_bit in
         number_standing (splice_place i f) 5 (stamp_field y.splice_type y.stamp) (omega arith)
         (stamp_field_lt y.splice_type y.stamp (ranged.splice y e).0)
-        (subst (λ (z : Perhaps SeamlessSplice). Standing s (splice_place i f) (spelt splice_bytes z)) e (rw splice_place_lem at third.1))
+        (subst (λ (z : Option SeamlessSplice). Standing s (splice_place i f) (spelt splice_bytes z)) e (rw splice_place_lem at third.1))
 
     pub extended_back : extended_at s i f ≡ x
     extended_back =
@@ -165,17 +167,17 @@ module _ (s : List ℕ) where
     pub splice_right : is_wrong_splice s i f ≡ false
     splice_right = go x.splice refl
       where
-        go : (y : Perhaps SeamlessSplice) → x.splice ≡ y → (is_flagged f 5 && lacks_marker (number_at s (splice_place i f) 5)) ≡ false
-        go (there y) e =
+        go : (y : Option SeamlessSplice) → x.splice ≡ y → (is_flagged f 5 && lacks_marker (number_at s (splice_place i f) 5)) ≡ false
+        go (Some y) e =
             let right = (marked _ y.splice_type (stamp_field_marked y.splice_type y.stamp (ranged.splice y e).0)).1 in
             rw (splice_number y e, right) (and_false (is_flagged f 5))
-        go absent e =
+        go None e =
             let none : presence x.splice ≡ 0 = ap presence e in
             rw (ne_eqb (bits f 5 1) 1 (λ q. let bit = splice_bit in omega arith))
 
 -- ---- of a packet: the two rows more let it pass where document 01's own do
 module _ (s : List ℕ) where
-  abbrev part : Perhaps Span
+  abbrev part : Option Span
   part = extension_part s (flags_of (control_of (header_of s)) s)
 
   widened : Silent (plain_refusals s) → is_cramped s part ≡ false → has_wrong_splice s part ≡ false → read_packet s ≡ given (contents s)
@@ -186,7 +188,7 @@ module _ (s : List ℕ) where
       )
 
   -- an extension of such a packet lies in it
-  lies_inside : Silent (plain_refusals s) → (span : Span) → part ≡ there span → span.start + span.size ≤ length s
+  lies_inside : Silent (plain_refusals s) → (span : Span) → part ≡ Some span → span.start + span.size ≤ length s
   lies_inside rows span h =
       let long = eqb-true (length s) 188 (not-false (eqb (length s) 188) rows.0) in
       let inside = extension_inside s (has_flags (control_of (header_of s)) s) rows.1.1.1.1.1.0 span h in

@@ -1,122 +1,68 @@
 -- What a reading tells leaves nothing of it untold: each field of it is made again of what it tells.
 -- Assumes nothing.
-use mathlib.Core.Path.{◌≡◌, refl}
+use mathlib.Core.Path.{◌≡◌, refl, ap}
 use Prim.Native.Nat.{ℕ}
-use lib.IntN.{ℤ}
-use Rattle.ground.specs.Answer.{Answer, refused, given}
-use Rattle.ground.specs.Perhaps.{Perhaps, there, absent}
-use Rattle.packet.specs.Part.{Span, told_part}
-use Rattle.packet.specs.Extension.{LegalWindow, SeamlessSplice, told_window, told_rate, told_splice}
-use Rattle.packet.specs.Adaptation.{AdaptationField, told_length, told_clock, told_countdown, told_field}
-use Rattle.packet.specs.Packet.{Contents, told_reading}
-use Rattle.packet.specs.declared.adaptation.Length.{Length}
-use Rattle.packet.specs.declared.adaptation.Length.TheVariants as lengths
-use Rattle.packet.specs.declared.adaptation.Clock.{Clock}
-use Rattle.packet.specs.declared.adaptation.Clock.TheVariants as clock
-use Rattle.packet.specs.declared.adaptation.Countdown.{Countdown}
-use Rattle.packet.specs.declared.adaptation.Countdown.TheVariants as countdown
+use Rattle.std.specs.Prelude.{Some, None}
+use Rattle.std.specs.Option.{option_map}
+use Rattle.std.specs.declared.option.Option.{Option}
+use Rattle.clock.specs.declared.reference.Reference.{Reference}
+use Rattle.packet.specs.Part.{Span}
+use Rattle.packet.specs.Extension.{LegalWindow, SeamlessSplice}
+use Rattle.packet.specs.Adaptation.{AdaptationField, told_field}
+use Rattle.packet.specs.Packet.{Contents, told_packet}
 use Rattle.packet.specs.declared.adaptation.Part.{Part}
-use Rattle.packet.specs.declared.adaptation.Part.TheVariants as part
 use Rattle.packet.specs.declared.adaptation.Adaptation.{Adaptation}
 use Rattle.packet.specs.declared.extension.Window.{Window}
-use Rattle.packet.specs.declared.extension.Window.TheVariants as window
-use Rattle.packet.specs.declared.extension.Rate.{Rate}
-use Rattle.packet.specs.declared.extension.Rate.TheVariants as rate
 use Rattle.packet.specs.declared.extension.Splice.{Splice}
-use Rattle.packet.specs.declared.extension.Splice.TheVariants as splice
 use Rattle.packet.specs.declared.Packet.{Packet}
-use Rattle.packet.specs.declared.Reading.{Reading}
-use Rattle.packet.specs.declared.Reading.TheVariants as reading
 
-abbrev made_length : Perhaps ℕ → Length
-made_length (there n) = lengths.There n
-made_length absent = lengths.Absent
+-- what may be missing is made again where what is there is
+back_option : {A B : Type 0} (f : A → B) (g : B → A) → ((x : A) → g (f x) ≡ x) → (x : Option A) → option_map g (option_map f x) ≡ x
+back_option f g h None = refl
+back_option f g h (Some x) = ap Some (h x)
 
-back_length : (x : Length) → made_length (told_length x) ≡ x
-back_length (lengths.There n) = refl
-back_length lengths.Absent = refl
+abbrev clock_made : ℕ → Reference
+clock_made v = record { 0 = v }
 
-abbrev made_clock : Perhaps ℕ → Clock
-made_clock (there v) = clock.There (record { 0 = v })
-made_clock absent = clock.Absent
+abbrev part_made : Span → Part
+part_made s = record { start = s.start; size = s.size }
 
-back_clock : (x : Clock) → made_clock (told_clock x) ≡ x
-back_clock (clock.There v) = refl
-back_clock clock.Absent = refl
+abbrev window_made : LegalWindow → Window
+window_made w = record { valid = w.valid; offset = w.offset }
 
-abbrev made_countdown : Perhaps ℤ → Countdown
-made_countdown (there n) = countdown.There n
-made_countdown absent = countdown.Absent
+abbrev splice_made : SeamlessSplice → Splice
+splice_made x = record { splice_type = x.splice_type; stamp = record { 0 = x.stamp } }
 
-back_countdown : (x : Countdown) → made_countdown (told_countdown x) ≡ x
-back_countdown (countdown.There n) = refl
-back_countdown countdown.Absent = refl
-
-abbrev made_part : Perhaps Span → Part
-made_part (there s) = part.There s.start s.size
-made_part absent = part.Absent
-
-back_part : (x : Part) → made_part (told_part x) ≡ x
-back_part (part.There start size) = refl
-back_part part.Absent = refl
-
-abbrev made_window : Perhaps LegalWindow → Window
-made_window (there w) = window.There w.valid w.offset
-made_window absent = window.Absent
-
-back_window : (x : Window) → made_window (told_window x) ≡ x
-back_window (window.There valid offset) = refl
-back_window window.Absent = refl
-
-abbrev made_rate : Perhaps ℕ → Rate
-made_rate (there n) = rate.There n
-made_rate absent = rate.Absent
-
-back_rate : (x : Rate) → made_rate (told_rate x) ≡ x
-back_rate (rate.There n) = refl
-back_rate rate.Absent = refl
-
-abbrev made_splice : Perhaps SeamlessSplice → Splice
-made_splice (there x) = splice.There x.splice_type (record { 0 = x.stamp })
-made_splice absent = splice.Absent
-
-back_splice : (x : Splice) → made_splice (told_splice x) ≡ x
-back_splice (splice.There splice_type v) = refl
-back_splice splice.Absent = refl
-
-abbrev made_field : AdaptationField → Adaptation
-made_field f =
+abbrev field_made : AdaptationField → Adaptation
+field_made f =
     record {
-      length = made_length f.size;
+      length = f.size;
       discontinuity = f.discontinuity;
       random_access = f.random_access;
       stream_priority = f.stream_priority;
-      pcr = made_clock f.pcr;
-      opcr = made_clock f.opcr;
-      countdown = made_countdown f.countdown;
-      private_data = made_part f.private_data;
-      extension = made_part f.extension;
-      window = made_window f.window;
-      rate = made_rate f.rate;
-      splice = made_splice f.splice;
+      pcr = option_map clock_made f.pcr;
+      opcr = option_map clock_made f.opcr;
+      countdown = f.countdown;
+      private_data = option_map part_made f.private_data;
+      extension = option_map part_made f.extension;
+      window = option_map window_made f.window;
+      rate = f.rate;
+      splice = option_map splice_made f.splice;
     }
 
-back_field : (a : Adaptation) → made_field (told_field a) ≡ a
+back_field : (a : Adaptation) → field_made (told_field a) ≡ a
 back_field a =
     rw (
-      back_length a.length,
-      back_clock a.pcr,
-      back_clock a.opcr,
-      back_countdown a.countdown,
-      back_part a.private_data,
-      back_part a.extension,
-      back_window a.window,
-      back_rate a.rate,
-      back_splice a.splice,
+      back_option _ clock_made (λ v. refl) a.pcr,
+      back_option _ clock_made (λ v. refl) a.opcr,
+      back_option _ part_made (λ p. refl) a.private_data,
+      back_option _ part_made (λ p. refl) a.extension,
+      back_option _ window_made (λ w. refl) a.window,
+      back_option _ splice_made (λ x. refl) a.splice,
     )
 
-abbrev made_packet : Contents → Packet
-made_packet p =
+abbrev pub packet_made : Contents → Packet
+packet_made p =
     record {
       unit_start = p.unit_start;
       priority = p.priority;
@@ -124,13 +70,8 @@ made_packet p =
       scrambling = p.scrambling;
       control = p.control;
       counter = p.counter;
-      field = made_field p.field;
+      field = field_made p.field;
     }
 
-abbrev pub made_reading : Answer Contents → Reading
-made_reading (given p) = reading.Value (made_packet p)
-made_reading (refused n) = reading.Refused n
-
-pub back_reading : (r : Reading) → made_reading (told_reading r) ≡ r
-back_reading (reading.Value p) = rw (back_field p.field)
-back_reading (reading.Refused n) = refl
+pub back_packet : (p : Packet) → packet_made (told_packet p) ≡ p
+back_packet p = rw (back_field p.field)

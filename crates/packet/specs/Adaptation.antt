@@ -2,64 +2,50 @@
 use Rattle.std.specs.Prelude.{Bool, cond, not, ◌&&◌, ◌||◌, List, [], ◌∷◌, ℕ, ◌+◌, ◌*◌, leb, ltb, eqb, ℤ, pos, ◌-ℤ◌, get_or}
 use Rattle.ground.specs.Number.{bits, is_flagged, number_at}
 use Rattle.ground.specs.Refusal.{Row, ◌when◌}
+use Rattle.std.specs.Option.{option_map}
+use Rattle.clock.specs.declared.reference.Reference.{Reference}
 use Rattle.clock.specs.Reference.{extension_of, reference_of}
-use Rattle.ground.specs.Perhaps.{Perhaps, there, absent, perhaps}
+use Rattle.std.specs.declared.option.Option.{Option}
+use Rattle.ground.specs.Perhaps.{perhaps}
 use Rattle.packet.specs.Part.{Span, told_part, part_at, part_size}
-use Rattle.packet.specs.Extension.{LegalWindow, SeamlessSplice, told_window, told_rate, told_splice, extended_in, is_cramped, has_wrong_splice}
-use Rattle.packet.specs.declared.adaptation.Length.{Length}
-use Rattle.packet.specs.declared.adaptation.Length.TheVariants as lengths
-use Rattle.packet.specs.declared.adaptation.Clock.{Clock}
-use Rattle.packet.specs.declared.adaptation.Clock.TheVariants as clock
-use Rattle.packet.specs.declared.adaptation.Countdown.{Countdown}
-use Rattle.packet.specs.declared.adaptation.Countdown.TheVariants as countdown
+use Rattle.packet.specs.Extension.{LegalWindow, SeamlessSplice, told_window, told_splice, extended_in, is_cramped, has_wrong_splice}
 use Rattle.packet.specs.declared.adaptation.Adaptation.{Adaptation}
 
 -- "The reading says which fields are there"
 pub record AdaptationField : Type 0 where
-  pub size : Perhaps ℕ
+  pub size : Option ℕ
   pub discontinuity : Bool
   pub random_access : Bool
   pub stream_priority : Bool
-  pub pcr : Perhaps ℕ
-  pub opcr : Perhaps ℕ
-  pub countdown : Perhaps ℤ
-  pub private_data : Perhaps Span
-  pub extension : Perhaps Span
-  pub window : Perhaps LegalWindow
-  pub rate : Perhaps ℕ
-  pub splice : Perhaps SeamlessSplice
+  pub pcr : Option ℕ
+  pub opcr : Option ℕ
+  pub countdown : Option ℤ
+  pub private_data : Option Span
+  pub extension : Option Span
+  pub window : Option LegalWindow
+  pub rate : Option ℕ
+  pub splice : Option SeamlessSplice
 
 -- ---- what the types of the code say in document 01's terms
--- the field's length
-abbrev pub told_length : Length → Perhaps ℕ
-told_length (lengths.There n) = there n
-told_length lengths.Absent = absent
-
 -- a PCR or an OPCR, as a count of 27 MHz
-abbrev pub told_clock : Clock → Perhaps ℕ
-told_clock (clock.There v) = there v.0
-told_clock clock.Absent = absent
-
--- the splice countdown
-abbrev pub told_countdown : Countdown → Perhaps ℤ
-told_countdown (countdown.There n) = there n
-told_countdown countdown.Absent = absent
+abbrev pub told_clock : Option Reference → Option ℕ
+told_clock = option_map (λ (v : Reference). v.0)
 
 -- the whole field
 abbrev pub told_field : Adaptation → AdaptationField
 told_field a =
     record {
-      size = told_length a.length;
+      size = a.length;
       discontinuity = a.discontinuity;
       random_access = a.random_access;
       stream_priority = a.stream_priority;
       pcr = told_clock a.pcr;
       opcr = told_clock a.opcr;
-      countdown = told_countdown a.countdown;
+      countdown = a.countdown;
       private_data = told_part a.private_data;
       extension = told_part a.extension;
       window = told_window a.window;
-      rate = told_rate a.rate;
+      rate = a.rate;
       splice = told_splice a.splice;
     }
 
@@ -106,7 +92,7 @@ abbrev pub extension_place : List ℕ → ℕ → ℕ
 extension_place s flags = private_place flags + part_size (part_at s (private_place flags) (is_flagged flags 1))
 
 -- the extension
-abbrev pub extension_part : List ℕ → ℕ → Perhaps Span
+abbrev pub extension_part : List ℕ → ℕ → Option Span
 extension_part s flags = part_at s (extension_place s flags) (is_flagged flags 0)
 
 -- where the flagged fields end and stuffing begins
@@ -123,7 +109,7 @@ is_wrong_clock s i flagged = flagged && ltb 299 (extension_of (number_at s i 6))
 
 -- ---- what is read
 -- a clock reference at place i
-abbrev pub clock_at : List ℕ → ℕ → Bool → Perhaps ℕ
+abbrev pub clock_at : List ℕ → ℕ → Bool → Option ℕ
 clock_at s i flagged = perhaps flagged (reference_of (number_at s i 6))
 
 -- "splice countdown 1 (signed)": two's complement
@@ -131,11 +117,11 @@ abbrev pub signed_of : ℕ → ℤ
 signed_of b = cond (ltb b 128) (pos b) (pos b -ℤ pos 256)
 
 -- the splice countdown at place i
-abbrev pub countdown_at : List ℕ → ℕ → Bool → Perhaps ℤ
+abbrev pub countdown_at : List ℕ → ℕ → Bool → Option ℤ
 countdown_at s i flagged = perhaps flagged (signed_of (get_or s i 0))
 
 -- the field whose flags byte is `flags`
-abbrev pub flagged_field : List ℕ → Perhaps ℕ → ℕ → AdaptationField
+abbrev pub flagged_field : List ℕ → Option ℕ → ℕ → AdaptationField
 flagged_field s size flags =
     record {
       size = size;

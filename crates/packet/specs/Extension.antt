@@ -1,15 +1,13 @@
 -- Document 02, ticket 6; H.222.0 2.4.3.4 and 2.4.3.5: what stands in the adaptation field's extension.
-use Rattle.std.specs.Prelude.{Bool, false, ◌&&◌, List, ℕ, ◌+◌, ◌*◌, ltb, get_or}
+use Rattle.std.specs.Prelude.{Bool, false, ◌&&◌, List, ℕ, ◌+◌, ◌*◌, ltb, get_or, Some, None}
+use Rattle.std.specs.Option.{option_map}
 use Rattle.ground.specs.Number.{bits, is_flagged, number_at}
-use Rattle.ground.specs.Perhaps.{Perhaps, there, absent, perhaps}
+use Rattle.std.specs.declared.option.Option.{Option}
+use Rattle.ground.specs.Perhaps.{perhaps}
 use Rattle.clock.specs.Stamp.{prefix_of, stamp_of, lacks_marker}
 use Rattle.packet.specs.Part.{Span}
 use Rattle.packet.specs.declared.extension.Window.{Window}
-use Rattle.packet.specs.declared.extension.Window.TheVariants as window
-use Rattle.packet.specs.declared.extension.Rate.{Rate}
-use Rattle.packet.specs.declared.extension.Rate.TheVariants as rate
 use Rattle.packet.specs.declared.extension.Splice.{Splice}
-use Rattle.packet.specs.declared.extension.Splice.TheVariants as splice
 
 -- "legal time window (valid bit, 15-bit offset)"
 pub record LegalWindow : Type 0 where
@@ -23,19 +21,12 @@ pub record SeamlessSplice : Type 0 where
 
 -- ---- what the types of the code say in the documents' terms
 -- the legal time window
-abbrev pub told_window : Window → Perhaps LegalWindow
-told_window (window.There valid offset) = there (record { valid = valid; offset = offset })
-told_window window.Absent = absent
-
--- the piecewise rate
-abbrev pub told_rate : Rate → Perhaps ℕ
-told_rate (rate.There n) = there n
-told_rate rate.Absent = absent
+abbrev pub told_window : Option Window → Option LegalWindow
+told_window = option_map (λ (w : Window). record { valid = w.valid; offset = w.offset })
 
 -- the seamless splice
-abbrev pub told_splice : Splice → Perhaps SeamlessSplice
-told_splice (splice.There splice_type v) = there (record { splice_type = splice_type; stamp = v.0 })
-told_splice splice.Absent = absent
+abbrev pub told_splice : Option Splice → Option SeamlessSplice
+told_splice = option_map (λ (x : Splice). record { splice_type = x.splice_type; stamp = x.stamp.0 })
 
 -- ---- the flags byte x, the first of the extension's n bytes: window 1, rate 1, splice 1, reserved 5
 -- how many bytes it takes with the parts that it flags, window 2, rate 3, splice 5, "in that order after the extension's flags byte"
@@ -65,9 +56,9 @@ splice_of n = record { splice_type = prefix_of n; stamp = stamp_of n }
 
 -- each of the three, or its absence
 pub record Extended : Type 0 where
-  pub window : Perhaps LegalWindow
-  pub rate : Perhaps ℕ
-  pub splice : Perhaps SeamlessSplice
+  pub window : Option LegalWindow
+  pub rate : Option ℕ
+  pub splice : Option SeamlessSplice
 
 -- "each, or its absence", of the extension whose flags byte x stands at place i
 abbrev pub extended_at : List ℕ → ℕ → ℕ → Extended
@@ -84,16 +75,16 @@ is_wrong_splice s i x = is_flagged x 5 && lacks_marker (number_at s (splice_plac
 
 -- ---- of an extension that may be missing: its flags byte is its first, and one outside the packet counts as 0
 -- each of the three, or its absence
-abbrev pub extended_in : List ℕ → Perhaps Span → Extended
-extended_in s absent = record { window = absent; rate = absent; splice = absent }
-extended_in s (there part) = extended_at s part.start (get_or s part.start 0)
+abbrev pub extended_in : List ℕ → Option Span → Extended
+extended_in s None = record { window = None; rate = None; splice = None }
+extended_in s (Some part) = extended_at s part.start (get_or s part.start 0)
 
 -- "n at least 1, with flagged parts inside n": it has fewer bytes than they take
-abbrev pub is_cramped : List ℕ → Perhaps Span → Bool
-is_cramped s absent = false
-is_cramped s (there part) = ltb part.size (flagged_size (get_or s part.start 0))
+abbrev pub is_cramped : List ℕ → Option Span → Bool
+is_cramped s None = false
+is_cramped s (Some part) = ltb part.size (flagged_size (get_or s part.start 0))
 
 -- "36 for a marker": its splice is flagged and lacks one
-abbrev pub has_wrong_splice : List ℕ → Perhaps Span → Bool
-has_wrong_splice s absent = false
-has_wrong_splice s (there part) = is_wrong_splice s part.start (get_or s part.start 0)
+abbrev pub has_wrong_splice : List ℕ → Option Span → Bool
+has_wrong_splice s None = false
+has_wrong_splice s (Some part) = is_wrong_splice s part.start (get_or s part.start 0)

@@ -6,8 +6,9 @@ use Rattle.ground.specs.Number.{bits, is_flagged, number_at}
 use Rattle.ground.specs.Refusal.{Row, judge, ◌when◌}
 use Rattle.packet.specs.Adaptation.{AdaptationField, told_field, field_refusals, field_of}
 use Rattle.packet.specs.declared.Packet.{Packet}
-use Rattle.packet.specs.declared.Reading.{Reading}
-use Rattle.packet.specs.declared.Reading.TheVariants as reading
+use Rattle.std.specs.declared.result.Result.{Result}
+use Rattle.ground.specs.declared.Refusal.{Refusal}
+use Rattle.ground.specs.Told.{told}
 
 -- one field for each thing read
 pub record Contents : Type 0 where
@@ -33,9 +34,8 @@ told_packet p =
     }
 
 -- the same of the call's answer
-abbrev pub told_reading : Reading → Answer Contents
-told_reading (reading.Value p) = given (told_packet p)
-told_reading (reading.Refused n) = refused n
+abbrev pub told_reading : Result Packet Refusal → Answer Contents
+told_reading = told told_packet
 
 -- "After the sync byte: error indicator, unit start, priority, PID (13 bits), scrambling (2), adaptation control (2), continuity counter (4)": 24 bits
 abbrev pub header_of : List ℕ → ℕ

@@ -4,10 +4,11 @@ use Rattle.ground.specs.Lent.{Lent}
 use Rattle.packet.specs.Packet.{told_packet, told_reading, read_packet}
 use Rattle.packet.specs.Payload.{start_after, payload_part}
 use Rattle.packet.specs.declared.Packet.{Packet}
-use Rattle.packet.specs.declared.Reading.{Reading}
+use Rattle.std.specs.declared.result.Result.{Result}
+use Rattle.ground.specs.declared.Refusal.{Refusal}
 
 -- `read` of a packet's bytes
-abbrev pub ReadsPacket : List ℕ → Reading → Type 0
+abbrev pub ReadsPacket : List ℕ → Result Packet Refusal → Type 0
 ReadsPacket s r = told_reading r ≡ read_packet s
 
 -- `payload_start` of a packet that was read

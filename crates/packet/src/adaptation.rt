@@ -1,72 +1,38 @@
 // The adaptation field: its length, its flags, and the fields that are flagged.
-ghost use Rattle.std.specs.Prelude.{◌≡◌, ◌+◌, ◌≤◌, ◌<◌, length, get_or};
-ghost use Rattle.ground.specs.Perhaps.{there};
+ghost use Rattle.std.specs.Prelude.{◌≡◌, ◌+◌, ◌≤◌, ◌<◌, get_or, drop};
 ghost use Rattle.packet.specs.Part.{told_part, part_at, part_size};
-ghost use Rattle.packet.specs.Adaptation.{told_length, told_countdown, told_field, is_wrong_length, opcr_place, countdown_place, private_place, countdown_at, signed_of};
+ghost use Rattle.packet.specs.Adaptation.{told_field, is_wrong_length, opcr_place, countdown_place, private_place, countdown_at, signed_of};
 ghost use Rattle.packet.specs.Steps.{told_fields, told_clocked, Parted, Roomy, read_clock, bare_field, read_fitting, read_flagged, read_field};
 
-use crate::extension;
-use crate::extension::{Rate, Splice, Window};
+use crate::extension::{Splice, Window};
+use crate::{PACKET_BYTES, extension};
 use clock::reference;
 use clock::reference::Reference;
+use ground::Refusal;
 use octets::byte_at;
-
-// The field's length: absent where the control says that there is no field.
-#[derive(Clone, Copy)]
-pub enum Length {
-    There(u8),
-    Absent,
-}
-
-// A PCR or an OPCR.
-#[derive(Clone, Copy)]
-pub enum Clock {
-    There(Reference),
-    Absent,
-}
-
-// The splice countdown.
-#[derive(Clone, Copy)]
-pub enum Countdown {
-    There(i8),
-    Absent,
-}
 
 // Private data or the extension, after its length byte: where it begins in the packet, and its size.
 #[derive(Clone, Copy)]
-pub enum Part {
-    There { start: usize, size: u8 },
-    Absent,
+pub struct Part {
+    pub start: usize,
+    pub size: u8,
 }
 
-// What the field says. Where there is no flags byte no indicator is set.
+// What the field says; its length is missing where the control says that there is no field. Where there is no flags byte no indicator is set.
 #[derive(Clone, Copy)]
 pub struct Adaptation {
-    pub length: Length,
+    pub length: Option<u8>,
     pub discontinuity: bool,
     pub random_access: bool,
     pub stream_priority: bool,
-    pub pcr: Clock,
-    pub opcr: Clock,
-    pub countdown: Countdown,
-    pub private_data: Part,
-    pub extension: Part,
-    pub window: Window,
-    pub rate: Rate,
-    pub splice: Splice,
-}
-
-#[derive(Clone, Copy)]
-pub(crate) enum Fields {
-    Value(Adaptation),
-    Refused(u8),
-}
-
-// A clock reference that may be missing, or its refusal.
-#[derive(Clone, Copy)]
-enum Clocked {
-    Value(Clock),
-    Refused(u8),
+    pub pcr: Option<Reference>,
+    pub opcr: Option<Reference>,
+    pub countdown: Option<i8>,
+    pub private_data: Option<Part>,
+    pub extension: Option<Part>,
+    pub window: Option<Window>,
+    pub rate: Option<u32>,
+    pub splice: Option<Splice>,
 }
 
 // Whether no field of this control has this length.
@@ -97,27 +63,27 @@ fn private_place(flags: u8) -> usize
     countdown_place(flags) + ((flags / 4 % 2) as usize)
 }
 
-// The part whose length byte stands at a place.
-fn part_at(bytes: &[u8], place: usize, flagged: bool) -> Part
+// The part whose length byte stands at a place. A place and its flag belong to one field each, here and below.
+fn part_at(bytes: &[u8; PACKET_BYTES], place: usize, flagged: bool) -> Option<Part>
     requires { place < 65536 }
     ensures { told_part result ≡ part_at bytes.now place flagged }
 {
     if !flagged {
-        return Part::Absent;
+        return None;
     }
-    Part::There {
+    Some(Part {
         start: place + 1,
         size: byte_at(bytes, place),
-    }
+    })
 }
 
 // How many bytes a part takes with its length byte.
-fn taken_by(part: Part) -> usize
+fn taken_by(part: Option<Part>) -> usize
     ensures { (result ≡ part_size (told_part part)) × (result ≤ 256) }
 {
     match part {
-        Part::Absent => 0,
-        Part::There { start: _, size } => 1 + (size as usize),
+        None => 0,
+        Some(part) => 1 + (part.size as usize),
     }
 }
 
@@ -125,68 +91,70 @@ fn taken_by(part: Part) -> usize
 fn signed_of(b: u8) -> i8
     ensures { result ≡ signed_of b }
 {
-    if b < 128 {
-        return b as i8;
-    }
-    ((b as i16) - 256) as i8
+    b.cast_signed()
+}
+
+// The packet's bytes from a place on.
+pub(crate) fn bytes_from(bytes: &[u8; PACKET_BYTES], place: usize) -> &[u8]
+    requires { place ≤ 188 }
+    ensures { result.now ≡ drop place bytes.now }
+{
+    &bytes[place..]
 }
 
 // The clock reference at a place.
-fn clock_at(bytes: &[u8], place: usize, flagged: bool) -> Clocked
-    requires { place + 6 ≤ length bytes.now }
+fn clock_at(
+    bytes: &[u8; PACKET_BYTES],
+    place: usize,
+    flagged: bool,
+) -> Result<Option<Reference>, Refusal>
+    requires { place + 6 ≤ 188 }
     ensures { told_clocked result ≡ read_clock bytes.now place flagged }
 {
     if !flagged {
-        return Clocked::Value(Clock::Absent);
+        return Ok(None);
     }
-    let reading = reference::read(&bytes[place..]);
-    match reading {
-        reference::Reading::Value(v) => Clocked::Value(Clock::There(v)),
-        reference::Reading::Refused(n) => Clocked::Refused(n),
-    }
+    Ok(Some(reference::read(bytes_from(bytes, place))?))
 }
 
 // The splice countdown at a place.
-fn countdown_at(bytes: &[u8], place: usize, flagged: bool) -> Countdown
-    requires { place + 1 ≤ length bytes.now }
-    ensures { told_countdown result ≡ countdown_at bytes.now place flagged }
+fn countdown_at(bytes: &[u8; PACKET_BYTES], place: usize, flagged: bool) -> Option<i8>
+    requires { place + 1 ≤ 188 }
+    ensures { result ≡ countdown_at bytes.now place flagged }
 {
-    if !flagged {
-        return Countdown::Absent;
-    }
-    Countdown::There(signed_of(bytes[place]))
+    flagged.then_some(signed_of(bytes[place]))
 }
 
 // A field without flags.
-fn bare(size: Length) -> Adaptation
-    ensures { told_field result ≡ bare_field (told_length size) }
+fn bare(size: Option<u8>) -> Adaptation
+    ensures { told_field result ≡ bare_field size }
 {
     Adaptation {
         length: size,
         discontinuity: false,
         random_access: false,
         stream_priority: false,
-        pcr: Clock::Absent,
-        opcr: Clock::Absent,
-        countdown: Countdown::Absent,
-        private_data: Part::Absent,
-        extension: Part::Absent,
-        window: Window::Absent,
-        rate: Rate::Absent,
-        splice: Splice::Absent,
+        pcr: None,
+        opcr: None,
+        countdown: None,
+        private_data: None,
+        extension: None,
+        window: None,
+        rate: None,
+        splice: None,
     }
 }
 
 // Private data and extension, and where the flagged fields end.
 #[derive(Clone, Copy)]
 struct Parts {
-    own: Part,
-    extension: Part,
+    own: Option<Part>,
+    extension: Option<Part>,
     end: usize,
 }
 
 // The parts that are flagged; a length byte outside the packet counts as 0, and the end then lies outside too.
-fn parts_of(bytes: &[u8], flags: u8) -> Parts
+fn parts_of(bytes: &[u8; PACKET_BYTES], flags: u8) -> Parts
     ensures { Parted bytes.now flags result }
 {
     let own_start = private_place(flags);
@@ -201,75 +169,64 @@ fn parts_of(bytes: &[u8], flags: u8) -> Parts
 }
 
 // The field whose flagged fields fit, or the first refusal that applies to their values.
-fn fitting(bytes: &[u8], size: u8, flags: u8, parts: Parts) -> Fields
-    requires { (length bytes.now ≡ 188) × Parted bytes.now flags parts × Roomy bytes.now (told_part parts.extension) }
-    ensures { told_fields result ≡ read_fitting bytes.now (there size) flags }
+// What the extension says stands among the field's own, as callers read it.
+fn fitting(
+    bytes: &[u8; PACKET_BYTES],
+    size: u8,
+    flags: u8,
+    parts: Parts,
+) -> Result<Adaptation, Refusal>
+    requires { Parted bytes.now flags parts × Roomy bytes.now (told_part parts.extension) }
+    ensures { told_fields result ≡ read_fitting bytes.now (Some size) flags }
 {
-    let own = parts.own;
-    let extension = parts.extension;
-    let pcr = clock_at(bytes, 6, flags / 16 % 2 == 1);
-    let opcr = clock_at(bytes, opcr_place(flags), flags / 8 % 2 == 1);
-    let countdown = countdown_at(bytes, countdown_place(flags), flags / 4 % 2 == 1);
-    let inner = extension::read(bytes, extension);
-    match pcr {
-        Clocked::Refused(n) => Fields::Refused(n),
-        Clocked::Value(pcr) => match opcr {
-            Clocked::Refused(n) => Fields::Refused(n),
-            Clocked::Value(opcr) => match inner {
-                extension::Reading::Refused(n) => Fields::Refused(n),
-                extension::Reading::Value {
-                    window,
-                    rate,
-                    splice,
-                } => Fields::Value(Adaptation {
-                    length: Length::There(size),
-                    discontinuity: flags / 128 % 2 == 1,
-                    random_access: flags / 64 % 2 == 1,
-                    stream_priority: flags / 32 % 2 == 1,
-                    pcr,
-                    opcr,
-                    countdown,
-                    private_data: own,
-                    extension,
-                    window,
-                    rate,
-                    splice,
-                }),
-            },
-        },
-    }
+    let pcr = clock_at(bytes, 6, flags / 16 % 2 == 1)?;
+    let opcr = clock_at(bytes, opcr_place(flags), flags / 8 % 2 == 1)?;
+    let inner = extension::read(bytes, parts.extension)?;
+    Ok(Adaptation {
+        length: Some(size),
+        discontinuity: flags / 128 % 2 == 1,
+        random_access: flags / 64 % 2 == 1,
+        stream_priority: flags / 32 % 2 == 1,
+        pcr,
+        opcr,
+        countdown: countdown_at(bytes, countdown_place(flags), flags / 4 % 2 == 1),
+        private_data: parts.own,
+        extension: parts.extension,
+        window: inner.window,
+        rate: inner.rate,
+        splice: inner.splice,
+    })
 }
 
 // The field whose flags byte is there, or the first refusal that applies to it.
-fn flagged(bytes: &[u8], size: u8, flags: u8) -> Fields
-    requires { (length bytes.now ≡ 188) × (get_or bytes.now 4 0 ≡ size) × (size ≤ 183) }
-    ensures { told_fields result ≡ read_flagged bytes.now (there size) flags }
+fn flagged(bytes: &[u8; PACKET_BYTES], size: u8, flags: u8) -> Result<Adaptation, Refusal>
+    requires { (get_or bytes.now 4 0 ≡ size) × (size ≤ 183) }
+    ensures { told_fields result ≡ read_flagged bytes.now (Some size) flags }
 {
     let parts = parts_of(bytes, flags);
     if 5 + (size as usize) < parts.end {
-        return Fields::Refused(7);
+        return Err(Refusal::AdaptationLength);
     }
-    let extension = parts.extension;
-    if extension::is_cramped(bytes, extension) {
-        return Fields::Refused(7);
+    if extension::is_cramped(bytes, parts.extension) {
+        return Err(Refusal::AdaptationLength);
     }
     fitting(bytes, size, flags, parts)
 }
 
 // The adaptation field of a packet with this control, or the first refusal that applies to it.
-pub(crate) fn read(bytes: &[u8], control: u8) -> Fields
-    requires { (length bytes.now ≡ 188) × (control < 4) }
+pub(crate) fn read(bytes: &[u8; PACKET_BYTES], control: u8) -> Result<Adaptation, Refusal>
+    requires { control < 4 }
     ensures { told_fields result ≡ read_field control bytes.now }
 {
     if control < 2 {
-        return Fields::Value(bare(Length::Absent));
+        return Ok(bare(None));
     }
     let size = bytes[4];
     if is_wrong_length(control, size) {
-        return Fields::Refused(7);
+        return Err(Refusal::AdaptationLength);
     }
     if size == 0 {
-        return Fields::Value(bare(Length::There(0)));
+        return Ok(bare(Some(0)));
     }
     flagged(bytes, size, bytes[5])
 }

@@ -7,7 +7,8 @@ ghost use Rattle.packet.specs.Adaptation.{told_field};
 ghost use Rattle.packet.specs.Packet.{told_packet, is_error, control_of, contents_of};
 ghost use Rattle.packet.specs.Promises.{ReadsPacket, FindsPayloadStart, GivesPayload};
 
-use crate::adaptation::{Adaptation, Fields, Length};
+use crate::adaptation::Adaptation;
+use ground::Refusal;
 use octets::number_of_three;
 use pid::Pid;
 
@@ -17,7 +18,7 @@ pub mod extension;
 // "188-byte transport packets".
 pub const PACKET_BYTES: usize = 188;
 
-// What a packet says, one field for each thing read.
+// What a packet says, one field for each thing read. Scrambling and control are told as their bits stand.
 #[derive(Clone, Copy)]
 pub struct Packet {
     pub unit_start: bool,
@@ -27,12 +28,6 @@ pub struct Packet {
     pub control: u8,
     pub counter: u8,
     pub field: Adaptation,
-}
-
-#[derive(Clone, Copy)]
-pub enum Reading {
-    Value(Packet),
-    Refused(u8),
 }
 
 // Whether the error indicator is set.
@@ -65,55 +60,44 @@ fn packet_of(header: u32, field: Adaptation) -> Packet
 }
 
 // What a packet says, or the first refusal that applies to it.
-pub fn read(bytes: &[u8]) -> Reading
+pub fn read(bytes: &[u8]) -> Result<Packet, Refusal>
     ensures { ReadsPacket bytes.now result }
 {
-    if bytes.len() != PACKET_BYTES {
-        return Reading::Refused(2);
-    }
+    let Ok(bytes) = <&[u8; PACKET_BYTES]>::try_from(bytes) else {
+        return Err(Refusal::PacketSize);
+    };
     if bytes[0] != 0x47 {
-        return Reading::Refused(4);
+        return Err(Refusal::SyncByte);
     }
     let header = number_of_three(bytes[1], bytes[2], bytes[3]);
     if is_error(header) {
-        return Reading::Refused(5);
+        return Err(Refusal::TransportError);
     }
     let control = control_of(header);
     if control == 0 {
-        return Reading::Refused(6);
+        return Err(Refusal::NoPayloadNorField);
     }
-    let fields = adaptation::read(bytes, control);
-    match fields {
-        Fields::Refused(n) => Reading::Refused(n),
-        Fields::Value(field) => Reading::Value(packet_of(header, field)),
-    }
+    let field = adaptation::read(bytes, control)?;
+    Ok(packet_of(header, field))
 }
 
 // Where the payload of a packet that reads so begins.
 pub fn payload_start(packet: Packet) -> usize
     ensures { FindsPayloadStart packet result }
 {
-    let field = packet.field;
-    let length = field.length;
-    match length {
-        Length::Absent => 4,
-        Length::There(n) => 5 + (n as usize),
+    match packet.field.length {
+        None => 4,
+        Some(n) => 5 + (n as usize),
     }
 }
 
 // The part of the packet that holds the payload: empty, at the packet's end, where there is none or the packet is refused.
+// It is no `Result`: a call that can't fail still can't (`GivesPayload`).
 pub fn payload(bytes: &[u8]) -> &[u8]
     ensures { GivesPayload (lent bytes.entry) (lent result) }
 {
-    let reading = read(bytes);
-    match reading {
-        Reading::Value(packet) => {
-            let start = payload_start(packet);
-            &bytes[start..]
-        }
-        Reading::Refused(_) => {
-            let end = bytes.len();
-            &bytes[end..]
-        }
+    match read(bytes) {
+        Ok(packet) => &bytes[payload_start(packet)..],
+        Err(_) => &bytes[bytes.len()..],
     }
 }

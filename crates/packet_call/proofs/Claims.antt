@@ -5,28 +5,31 @@ use mathlib.Core.Bool.{Bool, true, false, cond}
 use mathlib.Core.List.{List, [], ◌++◌}
 use mathlib.Core.Logic.{◌↔◌}
 use Prim.Native.Nat.{ℕ}
-use Rattle.ground.specs.Answer.{Answer, refused, given}
+use Rattle.std.specs.Prelude.{Option, Some, None}
+use Rattle.std.specs.declared.result.Result.{Result}
+use Rattle.ground.specs.declared.Refusal.{Refusal}
+use Rattle.state.specs.declared.After.{After}
+use Rattle.ground.specs.Answer.{refused, given}
+use Rattle.ground.proofs.Told.{made}
+use Rattle.ground.proofs.Told as names
 use Rattle.ground.specs.Outcome.{Determined}
 use Rattle.ground.specs.Refusal.{Row, Silent, ExactCall, judge}
 use Rattle.ground.proofs.Answer.{given_same}
 use Rattle.ground.proofs.Judged.{exact_call, judge_append}
 use Rattle.ground.proofs.Outcome.{determined_told}
-use Rattle.ground.proofs.Refusal as table
+use Rattle.ground.proofs.Refused as table
 use Rattle.state.specs.State.{area_of}
 use Rattle.state.specs.declared.State.{State}
-use Rattle.packet_call.specs.Packet.{Said, AfterPacket, told_handling, told_handled, pid_of, first_refusals, last_refusals, outcome, put_back, report, as_given, unwanted, after_reading, packet_of}
+use Rattle.packet_call.specs.Packet.{Said, AfterPacket, told_wanted, told_handled, pid_of, first_refusals, last_refusals, outcome, put_back, report, as_given, unwanted, after_reading, packet_of}
 use Rattle.packet_call.specs.Promises.{HandlesPacket}
 use Rattle.packet_call.specs.Claims.{has_no_area, handling_refusals, Claims}
-use Rattle.packet_call.specs.declared.Handled.{Handled}
-use Rattle.packet_call.specs.declared.Handling.{Handling}
-use Rattle.packet_call.specs.declared.Handling.TheVariants as handling
+use Rattle.packet_call.specs.declared.Report.{Report}
 
 -- ---- its outcome is its answer with the state, the store and the output
-abbrev handling_made : Answer Said → Handling
-handling_made (refused n) = handling.Refused n
-handling_made (given r) =
+abbrev wanted_made : Said → Option Report
+wanted_made r =
     cond r.wanted
-    (handling.Wanted (record {
+    (Some (record {
       sections = r.sections;
       bytes = r.bytes;
       jump = r.jump;
@@ -34,24 +37,23 @@ handling_made (given r) =
       given_up = r.given_up;
       begun = r.begun;
     }))
-    handling.NotWanted
+    None
 
-handling_back : (a : Handling) → handling_made (told_handling a) ≡ a
-handling_back (handling.Wanted r) = refl
-handling_back handling.NotWanted = refl
-handling_back (handling.Refused n) = refl
+wanted_back : (o : Option Report) → wanted_made (told_wanted o) ≡ o
+wanted_back (Some r) = refl
+wanted_back None = refl
 
 abbrev Whole : Type 0
-Whole = Handled × List ℕ × List ℕ × List ℕ
+Whole = After (Result (Option Report) Refusal) × List ℕ × List ℕ × List ℕ
 
 abbrev whole_told : Whole → AfterPacket
 whole_told w = told_handled w.0 w.1 w.2 w.3
 
 abbrev whole_made : AfterPacket → Whole
-whole_made a = (record { state = a.state; answer = handling_made a.answer }, a.store, a.out, a.sets)
+whole_made a = (record { state = a.state; answer = made wanted_made a.answer }, a.store, a.out, a.sets)
 
 whole_back : (w : Whole) → whole_made (whole_told w) ≡ w
-whole_back w = ap (λ (a : Handling). (record { state = w.0.state; answer = a }, w.1, w.2, w.3)) (handling_back w.0.answer)
+whole_back w = ap (λ (a : Result (Option Report) Refusal). (record { state = w.0.state; answer = a }, w.1, w.2, w.3)) (names.back told_wanted wanted_made wanted_back w.0.answer)
 
 handles_packet : (s : State) (p store out sets : List ℕ) → Determined (HandlesPacket s p store out sets)
 handles_packet s p store out sets = determined_told whole_told whole_made whole_back (packet_of s p store out sets)

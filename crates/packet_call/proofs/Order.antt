@@ -10,7 +10,7 @@ use lib.ListN.{length}
 use Rattle.ground.specs.Answer.{refused, given}
 use Rattle.ground.specs.Refusal.{Silent}
 use Rattle.ground.proofs.Judged.{refused_by}
-use Rattle.ground.proofs.Refusal as table
+use Rattle.ground.proofs.Refused as table
 use Rattle.ground.proofs.Test.{neither}
 use Rattle.packet.specs.Packet.{contents, read_packet, packet_refusals}
 use Rattle.packet.specs.Payload.{payload_of}

@@ -10,7 +10,7 @@ use lib.Seq.{take_all}
 use Rattle.ground.specs.Answer.{given, refused}
 use Rattle.ground.specs.Refusal.{Silent}
 use Rattle.ground.proofs.Answer.{given_apart, given_same}
-use Rattle.ground.proofs.Refusal.{none}
+use Rattle.ground.proofs.Refused.{none}
 use Rattle.packet.specs.Packet.{Contents, contents, read_packet, packet_refusals, told_packet}
 use Rattle.packet.specs.Payload.{start_after, start_of, payload_of}
 use Rattle.packet.specs.declared.Packet as packets

@@ -14,7 +14,8 @@ use Rattle.gather.specs.Kind.{join}
 use Rattle.gather.specs.Claims.{Keeps}
 use Rattle.gather.specs.Memory.{contradicts_of, sound_marks, state_of, Result, told_gathered, told_gathering, Leaves, leaves, result_of, on_memory, gather_of}
 use Rattle.gather.specs.declared.Gathered.{Gathered}
-use Rattle.gather.specs.declared.Gathering.{Gathering}
+use Rattle.std.specs.declared.result.Result as by_name
+use Rattle.ground.specs.declared.Refusal.{Refusal}
 use Rattle.gather.proofs.RuleKeeps.{rule_keeps}
 use Rattle.gather.proofs.Stored.{serves, house}
 use Rattle.state.specs.State.{area_start, free_area}
@@ -27,13 +28,13 @@ use Rattle.packet_call.proofs.Sets.{sets_written}
 
 -- where the first tests are passed gathering is not refused: the sizes serve, and the marks of a sound state are sound; so what it answers, g, and what it leaves are the rule's
 pub gathering_serves : (s : State) (i counter : ℕ) (start : Bool) (payload store out sets : List ℕ) → length s.areas ≡ 8 → Ready s store out sets → i < 8 → length payload ≤ 184 → counter ≤ 15
-    → {store' out' : List ℕ} {answer g : Gathering} → g ≡ answer → leaves (told_gathering answer) store' out' ≡ gather_of (get_or s.areas i free_area).marks counter start payload store (area_start i) out
+    → {store' out' : List ℕ} {answer g : by_name.Result Gathered Refusal} → g ≡ answer → leaves (told_gathering answer) store' out' ≡ gather_of (get_or s.areas i free_area).marks counter start payload store (area_start i) out
     → leaves (told_gathering g) store' out'
     ≡ on_memory (rule (state_of (get_or s.areas i free_area).marks store (area_start i)) (record { counter = counter; start = start; payload = payload })) store (area_start i) out
 gathering_serves s i counter start payload store out sets eight ready inside short few {store'} {out'} known e =
     let m = (get_or s.areas i free_area).marks in
     let fine : sound_marks m ≡ true = area_marks s (sound_tells s ready.fine) i (omega arith) in
-    ap (λ (r : Gathering). leaves (told_gathering r) store' out') known
+    ap (λ (r : by_name.Result Gathered Refusal). leaves (told_gathering r) store' out') known
     ∙ e
     ∙ serves m counter start payload store (area_start i) out (house m payload store i out fine ready.whole inside short ready.room) fine few
 

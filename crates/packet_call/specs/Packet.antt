@@ -1,5 +1,9 @@
 -- Document 01, "Refusal numbers" (the packet call's order) and "From payload to sections": the packet call.
-use Rattle.std.specs.Prelude.{Bool, true, false, cond, not, ◌||◌, List, [], ◌∷◌, map, ℕ, ltb, leb, eqb, length, get_or, set}
+use Rattle.std.specs.Prelude.{Bool, true, false, cond, not, ◌||◌, List, [], ◌∷◌, map, ℕ, ltb, leb, eqb, length, get_or, set, Option, Some, None}
+use Rattle.std.specs.declared.result.Result.{Result}
+use Rattle.ground.specs.declared.Refusal.{Refusal}
+use Rattle.ground.specs.Told.{told}
+use Rattle.state.specs.declared.After.{After}
 use Rattle.ground.specs.House.{store_bytes, least_output, least_list}
 use Rattle.ground.specs.Answer.{Answer, refused, given}
 use Rattle.ground.specs.Refusal.{Row, judge, ◌when◌}
@@ -16,9 +20,6 @@ use Rattle.state.specs.declared.Area.{Area}
 use Rattle.state.specs.declared.State.{State}
 use Rattle.sound.specs.Sound.{sound}
 use Rattle.packet_call.specs.declared.Report.{Report}
-use Rattle.packet_call.specs.declared.Handled.{Handled}
-use Rattle.packet_call.specs.declared.Handling.{Handling}
-use Rattle.packet_call.specs.declared.Handling.TheVariants as handling
 
 -- what the packet call says in document 01's terms: whether the packet is wanted, and "their number (at most 61), their bytes, .. jump, repeat, and how many sections were given up (0 to 2)"; with request 10 of document 02 also "how many sections a packet call began", and with its ticket 2 no set: "The joined set goes"
 pub record Said : Type 0 where
@@ -46,10 +47,13 @@ told_report r =
       begun = r.begun;
     }
 
-abbrev pub told_handling : Handling → Answer Said
-told_handling (handling.Wanted r) = given (told_report r)
-told_handling handling.NotWanted = given unwanted
-told_handling (handling.Refused n) = refused n
+-- a report, or none of a packet that is not wanted
+abbrev pub told_wanted : Option Report → Said
+told_wanted (Some r) = told_report r
+told_wanted None = unwanted
+
+abbrev pub told_handling : Result (Option Report) Refusal → Answer Said
+told_handling r = told told_wanted r
 
 -- the answer, the state after it, every byte of the store and of the output, and every place of the list
 pub record AfterPacket : Type 0 where
@@ -59,7 +63,7 @@ pub record AfterPacket : Type 0 where
   pub out : List ℕ
   pub sets : List ℕ
 
-abbrev pub told_handled : Handled → List ℕ → List ℕ → List ℕ → AfterPacket
+abbrev pub told_handled : After (Result (Option Report) Refusal) → List ℕ → List ℕ → List ℕ → AfterPacket
 told_handled h store out sets = record { answer = told_handling h.answer; state = h.state; store = store; out = out; sets = sets }
 
 -- ---- what the packet brings

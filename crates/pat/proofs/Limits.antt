@@ -7,7 +7,7 @@ use native.Mathlib.Omega.{arith}
 use borrow.Author.Tests.{not-false}
 use lib.ListN.{length}
 use Rattle.ground.specs.Refusal.{Silent}
-use Rattle.ground.proofs.Refusal.{silent_both}
+use Rattle.ground.proofs.Refused.{silent_both}
 use Rattle.psi.specs.Section.{before}
 use Rattle.psi.specs.Refusals.{shared}
 use Rattle.psi.specs.Loop.{joined}

@@ -11,7 +11,7 @@ use Rattle.ground.specs.Refusal.{Silent, ExactCall}
 use Rattle.ground.specs.Write.{put, Rest}
 use Rattle.ground.proofs.Answer.{given_same}
 use Rattle.ground.proofs.Judged.{passed_over, exact_call}
-use Rattle.ground.proofs.Refusal.{no≤, accepted}
+use Rattle.ground.proofs.Refused.{no≤, accepted}
 use Rattle.ground.proofs.Write.{put_item, put_rest}
 use Rattle.pat.specs.Answers.{PatHeading}
 use Rattle.pat.specs.Pat.{pat_of, pat_refusals, pat_heading_of, pat_header_of, association_of, pat_missing, pat_entry_of}

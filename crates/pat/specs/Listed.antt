@@ -1,8 +1,10 @@
 -- All of a PAT's entries, written to two lent lists in one reading (document 01, Tables).
 use Rattle.std.specs.Prelude.{List, ◌∷◌, map, ℕ, ltb, length}
+use Rattle.std.specs.declared.result.Result.{Result}
 use Rattle.ground.specs.Answer.{Answer, refused, given}
 use Rattle.ground.specs.Refusal.{Row, judge, ◌when◌}
 use Rattle.ground.specs.Write.{put}
+use Rattle.ground.specs.declared.Refusal.{Refusal}
 use Rattle.pat.specs.Answers.{PatHeading, told_pat_header}
 use Rattle.pat.specs.Pat.{pat_of, pat_refusals, pat_heading_of, association_of}
 use Rattle.pat.specs.declared.PatHeader.{PatHeader}
@@ -22,7 +24,7 @@ pub record Listed : Type 0 where
   pub pids : List ℕ
 
 -- the same of the call's answer and the lists after it
-abbrev pub listed : PatHeader → List ℕ → List ℕ → Listed
+abbrev pub listed : Result PatHeader Refusal → List ℕ → List ℕ → Listed
 listed r programs pids = record { answer = told_pat_header r; programs = programs; pids = pids }
 
 -- "A refusal gives its number alone .. and writes nothing"

@@ -1,20 +1,21 @@
-// The program association table: the header and the entries of a lent section, or the refusal's number.
+// The program association table: the header and the entries of a lent section, or its refusal.
 #![tactic(auto)]
 
-ghost use Rattle.std.specs.Prelude.{◌≡◌, ◌≤◌, length};
-ghost use Rattle.psi.specs.Answers.{told_judged};
+ghost use Rattle.std.specs.Prelude.{◌≡◌, ◌≤◌, length, IfOk};
 ghost use Rattle.psi.specs.Refusals.{verdict_of};
-ghost use Rattle.ground.specs.Answer.{given};
+ghost use Rattle.psi.specs.Answers.{told_judged};
+ghost use Rattle.ground.specs.Told.{told};
 ghost use Rattle.ground.specs.Write.{put};
-ghost use Rattle.pat.specs.Answers.{told_pat_header, told_pat_entry};
-ghost use Rattle.pat.specs.Pat.{pat_own, pat_refusals, pat_heading_of};
+ghost use Rattle.pat.specs.Answers.{heading_by, association_by, told_pat_entry};
+ghost use Rattle.pat.specs.Pat.{pat_of, pat_own, pat_refusals, pat_heading_of, association_of};
 ghost use Rattle.pat.specs.Listed.{programs_of, pids_of};
 ghost use Rattle.pat.specs.Promises.{ReadsPatHeader, ReadsPatEntry, ListsPatEntries};
 ghost use Rattle.pat.specs.Steps.{pat_entry_in};
 
+use ground::Refusal;
 use octets::number_of_two;
 use pid::Pid;
-use psi::{Head, Judged, head_of};
+use psi::{Head, head_of};
 
 // A PAT has no more entries.
 pub const MOST_PROGRAMS: usize = 253;
@@ -26,123 +27,125 @@ pub struct Program {
     pub pid: Pid,
 }
 
+// What a PAT says before its entries, and how many there are.
 #[derive(Clone, Copy)]
-pub enum PatHeader {
-    Header { head: Head, entries: usize },
-    Refused(u8),
+pub struct PatHeader {
+    pub head: Head,
+    pub entries: usize,
 }
 
+// A section that was judged and is a PAT.
 #[derive(Clone, Copy)]
-pub enum PatEntry {
-    Entry(Program),
-    Refused(u8),
+struct Pat<'a> {
+    section: &'a [u8],
+    ghost long: { 12 ≤ length section.now },
+    ghost short: { length section.now ≤ 1024 },
+}
+
+// An entry by its four bytes.
+fn program_of(four: [u8; 4]) -> Program
+    ensures { association_by result ≡ association_of four }
+{
+    let [first, second, third, fourth] = four;
+    Program {
+        number: number_of_two(first, second),
+        pid: Pid(number_of_two(third, fourth) % 8192),
+    }
 }
 
 // Judges a section that has room for CRC_32 behind its header by what is a PAT's own.
-fn judge_own(s: &[u8]) -> Judged
+fn judge_own(s: &[u8]) -> Result<(), Refusal>
     requires { 12 ≤ length s.now }
     ensures { told_judged result ≡ verdict_of (pat_own s.now) }
 {
     if s[7] < s[6] {
-        return Judged::Refused(24);
-    }
-    if (s.len() - 12) % 4 != 0 {
-        return Judged::Refused(26);
-    }
-    Judged::Fine
-}
-
-// Judges a section asked for as a PAT.
-fn judge(s: &[u8]) -> Judged
-    ensures { told_judged result ≡ verdict_of (pat_refusals s.now) }
-{
-    let shared = psi::judge(s, 0, 9);
-    match shared {
-        Judged::Refused(n) => Judged::Refused(n),
-        Judged::Fine => judge_own(s),
+        Err(Refusal::SectionNumber)
+    } else if (s.len() - 12) % 4 != 0 {
+        Err(Refusal::InnerLength)
+    } else {
+        Ok(())
     }
 }
 
-// The header of a PAT that is not refused.
-fn header_of(section: &[u8]) -> PatHeader
-    requires { 12 ≤ length section.now }
-    ensures { told_pat_header result ≡ given (pat_heading_of section.now) }
-{
-    PatHeader::Header {
-        head: head_of(section[3], section[4], section[5], section[6], section[7]),
-        entries: (section.len() - 12) / 4,
+impl<'a> Pat<'a> {
+    // The section, where it is a PAT.
+    fn judged(section: &'a [u8]) -> Result<Self, Refusal>
+        ensures verdict { told (λ p. tt) result ≡ verdict_of (pat_refusals section.now) }
+        ensures same { IfOk result (λ p. p.section.now ≡ section.now) }
+    {
+        psi::judge(section, 0, 9)?;
+        judge_own(section)?;
+        Ok(Pat { section })
+    }
+
+    // The four bytes of each entry.
+    fn fours(self) -> &'a [[u8; 4]]
+        ensures items { result.now ≡ (pat_of self.entry.section.now).items }
+        ensures few { length result.now ≤ 253 }
+    {
+        let body = &self.section[8..self.section.len() - 4];
+        body.as_chunks().0
+    }
+
+    fn header(self) -> PatHeader
+        ensures { heading_by result ≡ pat_heading_of self.entry.section.now }
+    {
+        let s = self.section;
+        PatHeader {
+            head: head_of([s[3], s[4], s[5], s[6], s[7]]),
+            entries: self.fours().len(),
+        }
+    }
+
+    // The entry with an index.
+    fn entry(self, index: usize) -> Result<Program, Refusal>
+        ensures { told_pat_entry result ≡ pat_entry_in self.entry.section.now index }
+    {
+        let four = self.fours().get(index).ok_or(Refusal::NoSuchEntry)?;
+        Ok(program_of(*four))
+    }
+
+    // Writes the entries to the start of both lists.
+    fn list(self, programs: &mut [u16], pids: &mut [u16])
+        requires { (253 ≤ length programs.old) × (253 ≤ length pids.old) }
+        ensures { (programs.new ≡ put programs.old 0 (programs_of self.entry.section.now))
+            × (pids.new ≡ put pids.old 0 (pids_of self.entry.section.now)) }
+    {
+        for (i, four) in self.fours().iter().enumerate() {
+            let program = program_of(*four);
+            programs[i] = program.number;
+            pids[i] = program.pid.0;
+        }
     }
 }
 
 // The header of a section asked for as a PAT.
-pub fn pat_header(section: &[u8]) -> PatHeader
+pub fn pat_header(section: &[u8]) -> Result<PatHeader, Refusal>
     ensures { ReadsPatHeader section.now result }
 {
-    let verdict = judge(section);
-    match verdict {
-        Judged::Refused(n) => PatHeader::Refused(n),
-        Judged::Fine => header_of(section),
-    }
-}
-
-// The entry with an index of a PAT that is not refused.
-fn entry_of(section: &[u8], index: u16) -> PatEntry
-    requires { 12 ≤ length section.now }
-    ensures { told_pat_entry result ≡ pat_entry_in section.now index }
-{
-    let i = index as usize;
-    if (section.len() - 12) / 4 <= i {
-        return PatEntry::Refused(27);
-    }
-    let at = 8 + 4 * i;
-    let number = number_of_two(section[at], section[at + 1]);
-    let pid = Pid(number_of_two(section[at + 2], section[at + 3]) % 8192);
-    PatEntry::Entry(Program { number, pid })
+    Ok(Pat::judged(section)?.header())
 }
 
 // The entry with an index of a section asked for as a PAT.
-pub fn pat_entry(section: &[u8], index: u16) -> PatEntry
+pub fn pat_entry(section: &[u8], index: u16) -> Result<Program, Refusal>
     ensures { ReadsPatEntry section.now index result }
 {
-    let verdict = judge(section);
-    match verdict {
-        Judged::Refused(n) => PatEntry::Refused(n),
-        Judged::Fine => entry_of(section, index),
-    }
-}
-
-// Writes the entries of a PAT that is not refused to the start of both lists.
-fn list_entries(section: &[u8], programs: &mut [u16], pids: &mut [u16])
-    requires { (12 ≤ length section.now) × (length section.now ≤ 1024) × (253 ≤ length programs.old) × (253 ≤ length pids.old) }
-    ensures { (programs.new ≡ put programs.old 0 (programs_of section.now))
-        × (pids.new ≡ put pids.old 0 (pids_of section.now)) }
-{
-    let n = (section.len() - 12) / 4;
-    let mut i: usize = 0;
-    while i < n {
-        let place = 8 + 4 * i;
-        programs[i] = number_of_two(section[place], section[place + 1]);
-        pids[i] = number_of_two(section[place + 2], section[place + 3]) % 8192;
-        i += 1;
-    }
+    Pat::judged(section)?.entry(usize::from(index))
 }
 
 // The header of a section asked for as a PAT, and all its entries, written to the start of two lists of at least 253 places.
-pub fn pat_entries(section: &[u8], programs: &mut [u16], pids: &mut [u16]) -> PatHeader
+// The lists stay apart: the program `exercise` lends each a size of its own and prints each one's digest, and what it prints may not change.
+pub fn pat_entries(
+    section: &[u8],
+    programs: &mut [u16],
+    pids: &mut [u16],
+) -> Result<PatHeader, Refusal>
     ensures { ListsPatEntries section.now programs.old pids.old (result, programs.new, pids.new) }
 {
-    if programs.len() < MOST_PROGRAMS {
-        return PatHeader::Refused(3);
+    if programs.len().min(pids.len()) < MOST_PROGRAMS {
+        return Err(Refusal::BufferSize);
     }
-    if pids.len() < MOST_PROGRAMS {
-        return PatHeader::Refused(3);
-    }
-    let verdict = judge(section);
-    match verdict {
-        Judged::Refused(n) => PatHeader::Refused(n),
-        Judged::Fine => {
-            list_entries(section, programs, pids);
-            header_of(section)
-        }
-    }
+    let pat = Pat::judged(section)?;
+    pat.list(programs, pids);
+    Ok(pat.header())
 }

@@ -1,9 +1,8 @@
 -- What a reading tells leaves nothing of it untold: each field of it is made again of what it tells.
 -- Assumes nothing.
 use mathlib.Core.Path.{◌≡◌, refl}
-use Rattle.ground.specs.Answer.{Answer, refused, given}
 use Rattle.pes.specs.Stamps.{Times, none, pts, both, told_stamps}
-use Rattle.pes.specs.Header.{Full, HeaderContents, full, bare, told_reading}
+use Rattle.pes.specs.Header.{Full, HeaderContents, full, bare, told_contents}
 use Rattle.pes.specs.declared.stamps.Stamps.{Stamps}
 use Rattle.pes.specs.declared.stamps.Stamps.TheVariants as stamps
 use Rattle.pes.specs.declared.Header.{Header}
@@ -35,12 +34,10 @@ made_header h =
       extension = h.extension;
     }
 
-abbrev pub made_reading : Answer HeaderContents → Reading
-made_reading (given (full h)) = reading.Value (made_header h)
-made_reading (given (bare id size)) = reading.Bare id size
-made_reading (refused n) = reading.Refused n
+abbrev pub contents_made : HeaderContents → Reading
+contents_made (full h) = reading.Full (made_header h)
+contents_made (bare id size) = reading.Bare id size
 
-pub back_reading : (r : Reading) → made_reading (told_reading r) ≡ r
-back_reading (reading.Value h) = rw (back_stamps h.stamps)
-back_reading (reading.Bare id size) = refl
-back_reading (reading.Refused n) = refl
+pub back_contents : (r : Reading) → contents_made (told_contents r) ≡ r
+back_contents (reading.Full h) = rw (back_stamps h.stamps)
+back_contents (reading.Bare id size) = refl

@@ -5,6 +5,9 @@ use Rattle.ground.specs.Number.{bits, is_flagged, number_at}
 use Rattle.ground.specs.Refusal.{Row, judge, ◌when◌}
 use Rattle.pes.specs.Stream.{is_dsmcc, is_bare, is_endless}
 use Rattle.pes.specs.Stamps.{Times, told_stamps, stamps_size, stamp_refusals, stamps_of}
+use Rattle.std.specs.declared.result.Result.{Result}
+use Rattle.ground.specs.declared.Refusal.{Refusal}
+use Rattle.ground.specs.Told.{told}
 use Rattle.pes.specs.declared.Header.{Header}
 use Rattle.pes.specs.declared.Reading.{Reading}
 use Rattle.pes.specs.declared.Reading.TheVariants as reading
@@ -43,11 +46,14 @@ told_header h =
       extension = h.extension;
     }
 
+-- and an id without optional header
+abbrev pub told_contents : Reading → HeaderContents
+told_contents (reading.Full h) = full (told_header h)
+told_contents (reading.Bare id size) = bare id size
+
 -- the same of the call's answer
-abbrev pub told_reading : Reading → Answer HeaderContents
-told_reading (reading.Value h) = given (full (told_header h))
-told_reading (reading.Bare id size) = given (bare id size)
-told_reading (reading.Refused n) = refused n
+abbrev pub told_reading : Result Reading Refusal → Answer HeaderContents
+told_reading = told told_contents
 
 -- ---- where things stand: prefix 3 bytes, stream_id 1, PES_packet_length 2, flags 2, PES_header_data_length 1
 -- stream_id

@@ -5,13 +5,14 @@ use Rattle.ground.specs.Refusal.{judge}
 use Rattle.pes.specs.Stream.{is_bare}
 use Rattle.pes.specs.Stamps.{Times, told_stamps, stamp_refusals, stamps_of}
 use Rattle.pes.specs.Header.{HeaderContents, id_of, optional_refusals, optional_of, header_contents}
-use Rattle.pes.specs.declared.stamps.Stamped.{Stamped}
-use Rattle.pes.specs.declared.stamps.Stamped.TheVariants as stamped
+use Rattle.std.specs.declared.result.Result.{Result}
+use Rattle.ground.specs.declared.Refusal.{Refusal}
+use Rattle.ground.specs.Told.{told}
+use Rattle.pes.specs.declared.stamps.Stamps.{Stamps}
 
 -- what the answer for the stamps says
-abbrev pub told_stamped : Stamped → Answer Times
-told_stamped (stamped.Value t) = given (told_stamps t)
-told_stamped (stamped.Refused n) = refused n
+abbrev pub told_stamped : Result Stamps Refusal → Answer Times
+told_stamped = told told_stamps
 
 -- the stamps that the flags announce, judged
 abbrev pub read_stamps : List ℕ → ℕ → Answer Times

@@ -7,7 +7,8 @@ ghost use Rattle.pes.specs.Header.{told_reading, fields_size, passes_length};
 ghost use Rattle.pes.specs.Promises.{ReadsHeader};
 ghost use Rattle.pes.specs.Steps.{read_optional, read_after_start};
 
-use crate::stamps::{Stamped, Stamps};
+use crate::stamps::Stamps;
+use ground::Refusal;
 use octets::{number_of_three, number_of_two};
 
 pub mod stamps;
@@ -31,9 +32,8 @@ pub struct Header {
 // An id without optional header has nothing but its packet length.
 #[derive(Clone, Copy)]
 pub enum Reading {
-    Value(Header),
+    Full(Header),
     Bare { stream_id: u8, packet_length: u16 },
-    Refused(u8),
 }
 
 // How many bytes the flagged fields have at least.
@@ -57,81 +57,76 @@ fn is_over(size: u16, fields: u16, header: u8) -> bool
 }
 
 // The optional header, or the first refusal that applies to it.
-fn optional(bytes: &[u8], id: u8, size: u16) -> Reading
+fn optional(bytes: &[u8], id: u8, size: u16) -> Result<Reading, Refusal>
     requires { (get_or bytes.now 3 0 ≡ id) × (number_at bytes.now 4 2 ≡ size) }
     ensures { told_reading result ≡ read_optional bytes.now }
 {
     if bytes.len() < 9 {
-        return Reading::Refused(30);
+        return Err(Refusal::PesTooShort);
     }
     if bytes[6] / 64 % 4 != 2 {
-        return Reading::Refused(33);
+        return Err(Refusal::PesFixedBits);
     }
     let flags = bytes[7];
     let code = flags / 64 % 4;
     if code == 1 {
-        return Reading::Refused(34);
+        return Err(Refusal::PesStampFlags);
     }
     let header = bytes[8];
     if is_over(size, fields_size(flags), header) {
-        return Reading::Refused(35);
+        return Err(Refusal::PesHeaderLength);
     }
     if bytes.len() < 9 + (header as usize) {
-        return Reading::Refused(30);
+        return Err(Refusal::PesTooShort);
     }
-    let stamped = stamps::read(bytes, code);
-    match stamped {
-        Stamped::Refused(n) => Reading::Refused(n),
-        Stamped::Value(stamps) => Reading::Value(Header {
-            stream_id: id,
-            packet_length: size,
-            header_length: header,
-            stamps,
-            escr: flags / 32 % 2 == 1,
-            rate: flags / 16 % 2 == 1,
-            trick: flags / 8 % 2 == 1,
-            copy: flags / 4 % 2 == 1,
-            crc: flags / 2 % 2 == 1,
-            extension: flags % 2 == 1,
-        }),
-    }
+    let stamps = stamps::read(bytes, code)?;
+    Ok(Reading::Full(Header {
+        stream_id: id,
+        packet_length: size,
+        header_length: header,
+        stamps,
+        escr: flags / 32 % 2 == 1,
+        rate: flags / 16 % 2 == 1,
+        trick: flags / 8 % 2 == 1,
+        copy: flags / 4 % 2 == 1,
+        crc: flags / 2 % 2 == 1,
+        extension: flags % 2 == 1,
+    }))
 }
 
 // What the first six bytes say of an id without optional header, or what the optional header says.
-fn after_start(bytes: &[u8], id: u8, size: u16) -> Reading
+fn after_start(bytes: &[u8], id: u8, size: u16) -> Result<Reading, Refusal>
     requires { (get_or bytes.now 3 0 ≡ id) × (number_at bytes.now 4 2 ≡ size) }
     ensures { told_reading result ≡ read_after_start bytes.now }
 {
     if stream::is_bare(id) {
-        return Reading::Bare {
+        return Ok(Reading::Bare {
             stream_id: id,
             packet_length: size,
-        };
+        });
     }
     optional(bytes, id, size)
 }
 
 // What a PES header says, or the first refusal that applies to it.
-pub fn read(bytes: &[u8]) -> Reading
+pub fn read(bytes: &[u8]) -> Result<Reading, Refusal>
     ensures { ReadsHeader bytes.now result }
 {
-    if bytes.len() < 6 {
-        return Reading::Refused(30);
+    let &[first, second, third, id, high, low, ..] = bytes else {
+        return Err(Refusal::PesTooShort);
+    };
+    if number_of_three(first, second, third) != 1 {
+        return Err(Refusal::PesStart);
     }
-    let start = number_of_three(bytes[0], bytes[1], bytes[2]);
-    if start != 1 {
-        return Reading::Refused(31);
-    }
-    let id = bytes[3];
     if id < 0xBC {
-        return Reading::Refused(32);
+        return Err(Refusal::PesStreamId);
     }
     if stream::is_dsmcc(id) {
-        return Reading::Refused(38);
+        return Err(Refusal::PesDsmcc);
     }
-    let size = number_of_two(bytes[4], bytes[5]);
+    let size = number_of_two(high, low);
     if stream::is_endless(id, size) {
-        return Reading::Refused(37);
+        return Err(Refusal::PesWithoutLength);
     }
     after_start(bytes, id, size)
 }

@@ -9,17 +9,11 @@ pub(crate) fn is_dsmcc(id: u8) -> bool
     id == 0xF2
 }
 
-// Whether the id has no optional header.
+// Whether the id has no optional header, as document 01 lists them.
 pub(crate) fn is_bare(id: u8) -> bool
     ensures { result ≡ is_bare id }
 {
-    (id == 0xBC)
-        | (id == 0xBE)
-        | (id == 0xBF)
-        | (id == 0xF0)
-        | (id == 0xF1)
-        | (id == 0xF8)
-        | (id == 0xFF)
+    matches!(id, 0xBC | 0xBE | 0xBF | 0xF0 | 0xF1 | 0xF8 | 0xFF)
 }
 
 // Whether the packet has no length and the id is none that may do without.

@@ -1,15 +1,16 @@
 -- Document 01, "Time" and "Refusal numbers": the PID type's checked constructor.
 use Rattle.std.specs.Prelude.{List, [], ◌∷◌, ℕ, ltb}
+use Rattle.std.specs.declared.result.Result.{Result}
 use Rattle.ground.specs.House.{last_pid}
 use Rattle.ground.specs.Answer.{Answer, refused, given}
 use Rattle.ground.specs.Refusal.{Row, judge, ◌when◌}
-use Rattle.pid.specs.declared.Making.{Making}
-use Rattle.pid.specs.declared.Making.TheVariants as making
+use Rattle.ground.specs.Told.{told}
+use Rattle.ground.specs.declared.Refusal.{Refusal}
+use Rattle.pid.specs.declared.Pid.{Pid}
 
 -- what a making says in document 01's terms
-abbrev pub told_pid : Making → Answer ℕ
-told_pid (making.Value p) = given p.0
-told_pid (making.Refused n) = refused n
+abbrev pub told_pid : Result Pid Refusal → Answer ℕ
+told_pid = told (λ (p : Pid). p.0)
 
 -- "12: making a PID above 0x1FFF"
 abbrev pub pid_refusals : ℕ → List Row

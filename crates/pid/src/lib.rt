@@ -4,15 +4,11 @@
 ghost use Rattle.std.specs.Prelude.{◌≡◌, [], ◌∷◌};
 ghost use Rattle.pid.specs.Promises.{MakesPid};
 
-// A number above 0x1FFF can be written down as a PID; no packet has it.
-#[derive(Clone, Copy)]
-pub struct Pid(pub u16);
+use ground::Refusal;
 
-#[derive(Clone, Copy)]
-pub enum Making {
-    Value(Pid),
-    Refused(u8),
-}
+// A number above 0x1FFF can be written down as a PID; no packet has it.
+#[derive(Clone, Copy, PartialEq, Eq)]
+pub struct Pid(pub u16);
 
 impl Pid {
     pub const PROGRAM_ASSOCIATION: Pid = Pid(0x0000);
@@ -21,14 +17,14 @@ impl Pid {
 
     pub const NULL: Pid = Pid(0x1FFF);
 
-    // The PID of this number.
-    pub fn new(n: u16) -> Making
+    // The PID of this number: document 01 names a checked constructor, so that it is no `TryFrom`.
+    pub fn new(n: u16) -> Result<Pid, Refusal>
         ensures { MakesPid n result }
     {
         if Pid::NULL.0 < n {
-            return Making::Refused(12);
+            return Err(Refusal::PidRange);
         }
-        Making::Value(Pid(n))
+        Ok(Pid(n))
     }
 }
 

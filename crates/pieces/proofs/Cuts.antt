@@ -20,6 +20,26 @@ lines_first (suc n) w a b h =
     rw (take-append-le 188 a b (omega arith), drop-append-le 188 a b (omega arith))
     (ap (λ (l : List ℕ). next_lines w (take 188 a) ++ l) (lines_first n (after_call w (take 188 a)) (drop 188 a) b (rw (length-drop 188 a) (omega arith))))
 
+-- ---- the whole packets of a piece's first bytes are the piece's first packets
+module _ (w : Work) (piece first : List ℕ) (end : ℕ) (h : end ≤ length piece) (e : first ≡ take end piece) where
+  many : whole_in first ≡ end / 188
+  many = ap (λ (l : List ℕ). whole_in l) e ∙ ap (λ (n : ℕ). n / 188) (length-take-le end piece h)
+
+  some : end / 188 * 188 ≤ length (take end piece)
+  some = rw (length-take-le end piece h) (omega arith)
+
+  pub first_work : after_calls (whole_in first) w first ≡ after_calls (end / 188) w piece
+  first_work =
+      ap₂ (λ (n : ℕ) (l : List ℕ). after_calls n w l) many e
+      ∙ sym (work_first (end / 188) w (take end piece) (drop end piece) some)
+      ∙ ap (λ (l : List ℕ). after_calls (end / 188) w l) (take-append-drop end piece)
+
+  pub first_lines : printed (whole_in first) w first ≡ printed (end / 188) w piece
+  first_lines =
+      ap₂ (λ (n : ℕ) (l : List ℕ). printed n w l) many e
+      ∙ sym (lines_first (end / 188) w (take end piece) (drop end piece) some)
+      ∙ ap (λ (l : List ℕ). printed (end / 188) w l) (take-append-drop end piece)
+
 -- ---- two reads are one of all their bytes
 module _ (b : Between) (x y : List ℕ) where
   abbrev first : List ℕ

@@ -3,5 +3,4 @@ pub mod Room
 pub mod Loop
 pub mod Cuts
 pub mod Turns
-pub mod Rest
 pub mod Claims

@@ -1,27 +1,34 @@
 -- One packet and then the rest of them are all of them, and so are pieces of any size.
 -- Assumes nothing.
-use Rattle.std.proofs.Common.{◌≡◌, ℕ, zero, suc, ◌+◌, ◌-◌, ◌*◌, ◌<◌, List, ◌++◌, take, drop, sym, refl, ap, ◌∙◌, append_assoc, not-suc-le-zero, suc-add, zero-add, arith, drop-drop}
+use Rattle.std.proofs.Common.{◌≡◌, ℕ, zero, suc, ◌+◌, ◌*◌, List, ◌++◌, length, take, drop, sym, refl, ap, ap₂, ◌∙◌, append_assoc, suc-add, zero-add, arith, drop-drop, length-append, take_at, drop_at}
 use Rattle.text.specs.Text.{Text, with_bytes}
 use Rattle.text.proofs.Laws.{next}
-use Rattle.pieces.specs.Input.{Work, after_call, next_lines, after_calls, printed}
+use Rattle.pieces.specs.Input.{Work, after_call, next_lines, after_calls, whole_in, printed}
 use Rattle.pieces.specs.Steps.{Lists}
 
--- ---- one progress of the loop
-module _ (w w' : Work) (t t' : Text) (bytes : List ℕ) (l : Lists (after_call w (take 188 bytes)) (next_lines w (take 188 bytes)) t w' t') where
-  pub work_turn : (left : ℕ) → 0 < left → after_calls (left - 1) w' (drop 188 bytes) ≡ after_calls left w bytes
-  work_turn zero h = absurd (not-suc-le-zero h)
-  work_turn (suc left) h =
-      let less : suc left - 1 ≡ left = omega arith in
-      rw less (ap (λ (x : Work). after_calls left x (drop 188 bytes)) l.work)
+-- ---- one turn of the loop: a packet, and the rest of the bytes behind it
+module _ (w w' : Work) (t t' : Text) (bytes packet rest : List ℕ) (parts : bytes ≡ packet ++ rest) (whole : length packet ≡ 188) (l : Lists (after_call w packet) (next_lines w packet) t w' t') where
+  counted : whole_in bytes ≡ suc (whole_in rest)
+  counted = let all = ap length parts ∙ length-append packet rest in omega arith
 
-  pub text_turn : (left : ℕ) → 0 < left → with_bytes t' (printed (left - 1) w' (drop 188 bytes)) ≡ with_bytes t (printed left w bytes)
-  text_turn zero h = absurd (not-suc-le-zero h)
-  text_turn (suc left) h =
-      let lines = next_lines w (take 188 bytes) in
-      let rest = printed left (after_call w (take 188 bytes)) (drop 188 bytes) in
-      let less : suc left - 1 ≡ left = omega arith in
-      rw less
-      (ap (λ (x : Work). with_bytes t' (printed left x (drop 188 bytes))) l.work ∙ next t lines rest l.text refl)
+  front : take 188 bytes ≡ packet
+  front = rw parts (take_at packet rest 188 whole)
+
+  behind : drop 188 bytes ≡ rest
+  behind = rw parts (drop_at packet rest 188 whole)
+
+  pub work_turn : after_calls (whole_in rest) w' rest ≡ after_calls (whole_in bytes) w bytes
+  work_turn =
+      ap (λ (x : Work). after_calls (whole_in rest) x rest) l.work
+      ∙ ap₂ (λ (p r : List ℕ). after_calls (whole_in rest) (after_call w p) r) (sym front) (sym behind)
+      ∙ ap (λ (n : ℕ). after_calls n w bytes) (sym counted)
+
+  pub text_turn : with_bytes t' (printed (whole_in rest) w' rest) ≡ with_bytes t (printed (whole_in bytes) w bytes)
+  text_turn =
+      ap (λ (x : Work). with_bytes t' (printed (whole_in rest) x rest)) l.work
+      ∙ next t (next_lines w packet) (printed (whole_in rest) (after_call w packet) rest) l.text refl
+      ∙ ap₂ (λ (p r : List ℕ). with_bytes t (next_lines w p ++ printed (whole_in rest) (after_call w p) r)) (sym front) (sym behind)
+      ∙ ap (λ (n : ℕ). with_bytes t (printed n w bytes)) (sym counted)
 
 -- ---- m packets, and then n
 later : (m : ℕ) (bytes : List ℕ) → drop (m * 188) (drop 188 bytes) ≡ drop (suc m * 188) bytes

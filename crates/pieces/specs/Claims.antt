@@ -1,4 +1,5 @@
 -- What is claimed of the definitions and the promises, and proved.
+use Rattle.std.specs.Borrow.{MutBor}
 use Rattle.std.specs.Prelude.{◌≡◌, ℕ, ◌+◌, ◌*◌, ◌^◌, ◌<◌, List, ◌++◌, drop}
 use Rattle.ground.specs.House.{packet_bytes}
 use Rattle.ground.specs.Answer.{given}
@@ -7,16 +8,16 @@ use Rattle.state.specs.State.{fresh}
 use Rattle.state.specs.declared.Choice.TheVariants.{All}
 use Rattle.open_call.specs.Open.{open_of}
 use Rattle.pieces.specs.Input.{Work, next_index, after_calls, printed, Between, after_read, lines_read}
-use Rattle.pieces.specs.Piece.{piece_of}
+use Rattle.text.specs.Text.{Text}
+use Rattle.pieces.specs.Piece.{Held, piece_of}
 use Rattle.pieces.specs.Promises.{Begins, ListsRead}
 use Rattle.pieces.specs.Turns.{Fits, EndsIn, IsTurn}
-use Rattle.pieces.specs.declared.reads.Step.{Step}
 use Rattle.pieces.specs.declared.reads.Brought.{Brought}
 
 pub record Claims : Type 0 where
   -- any two outcomes that a promise admits are equal
-  pub begins : Determined Begins
-  pub lists_read : (s : Step) (brought : Brought) (piece store out sets text : List ℕ) → Determined (ListsRead s brought piece store out sets text)
+  pub begins : (store out sets : MutBor (List ℕ)) → Determined (Begins store out sets)
+  pub lists_read : (h : Held) (brought : Brought) (t : Text) → Determined (ListsRead h brought t)
   -- indices rise by one
   pub rises : (i : ℕ) → i + 1 < 2 ^ 64 → next_index i ≡ i + 1
   -- the filter is open: the open at the beginning is not refused
@@ -29,5 +30,5 @@ pub record Claims : Type 0 where
   pub read_on : (b : Between) (x y : List ℕ) → after_read (after_read b x) y ≡ after_read b (x ++ y)
   pub lines_read_on : (b : Between) (x y : List ℕ) → lines_read b (x ++ y) ≡ lines_read b x ++ lines_read (after_read b x) y
   -- where the text has room, what lies in memory after a read is the turn that the read makes: no byte is lost between two reads
-  pub is_turn : (s : Step) (piece store out sets text : List ℕ) → Fits piece text → s.rest < packet_bytes
-      → (brought : Brought) → EndsIn brought s.rest piece → IsTurn s brought piece store out sets (piece_of s brought piece store out sets text)
+  pub is_turn : (h : Held) (t : Text) → Fits h.piece t.bytes → h.kept < packet_bytes
+      → (brought : Brought) → EndsIn brought h.kept h.piece → IsTurn h brought (piece_of h brought t)

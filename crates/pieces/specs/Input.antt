@@ -5,13 +5,14 @@ use Rattle.packet_call.specs.Packet.{pid_of, packet_of}
 use Rattle.state.specs.declared.State.{State}
 use Rattle.lines.specs.Lines.{lines_of}
 
--- what goes on from packet to packet: the driver's state, the next packet's index, the store, the output and the list of sets
+-- what goes on from packet to packet: the driver's state, the next packet's index, the store, the output and the list of sets, and the names of their loans
 pub record Work : Type 0 where
   pub state : State
   pub index : ℕ
   pub store : List ℕ
   pub out : List ℕ
   pub sets : List ℕ
+  pub loans : List ℕ
 
 -- "packet index": one more, in 64 bits; no input has so many packets that it begins again
 abbrev pub next_index : ℕ → ℕ
@@ -21,7 +22,7 @@ next_index i = (i + 1) % 2 ^ 64
 abbrev pub after_call : Work → List ℕ → Work
 after_call w p =
     let a = packet_of w.state p w.store w.out w.sets in
-    record { state = a.state; index = next_index w.index; store = a.store; out = a.out; sets = a.sets }
+    record { state = a.state; index = next_index w.index; store = a.store; out = a.out; sets = a.sets; loans = w.loans }
 
 -- the lines of that packet
 abbrev pub next_lines : Work → List ℕ → List ℕ

@@ -1,13 +1,15 @@
 -- What each public call promises.
+use Rattle.std.specs.Borrow.{MutBor}
 use Rattle.std.specs.Prelude.{◌≡◌, ℕ, List}
-use Rattle.pieces.specs.Piece.{beginning, told_piece, piece_of}
-use Rattle.pieces.specs.declared.reads.Step.{Step}
+use Rattle.text.specs.Text.{Text}
+use Rattle.pieces.specs.Input.{Work}
+use Rattle.pieces.specs.Piece.{Held, AfterPiece, beginning, piece_of}
 use Rattle.pieces.specs.declared.reads.Brought.{Brought}
 
 -- `begin`
-abbrev pub Begins : Step → Type 0
-Begins r = r ≡ beginning
+abbrev pub Begins : MutBor (List ℕ) → MutBor (List ℕ) → MutBor (List ℕ) → Work → Type 0
+Begins store out sets r = r ≡ beginning store out sets
 
--- `list_read`: its outcome is the step with every byte of the piece, the store, the output and the text and every place of the list after it
-abbrev pub ListsRead : Step → Brought → List ℕ → List ℕ → List ℕ → List ℕ → List ℕ → Step × List ℕ × List ℕ × List ℕ × List ℕ × List ℕ → Type 0
-ListsRead s brought piece store out sets text o = told_piece o.0 o.1 o.2 o.3 o.4 o.5 ≡ piece_of s brought piece store out sets text
+-- `list_read`: its outcome is what is held, with every byte of the piece, the store, the output and the text and every place of the list after it, and whether to read on
+abbrev pub ListsRead : Held → Brought → Text → AfterPiece → Type 0
+ListsRead h brought t o = o ≡ piece_of h brought t

@@ -3,8 +3,8 @@ use Rattle.std.specs.Prelude.{◌≡◌, ℕ, ◌+◌, ◌*◌, ◌/◌, ◌<◌
 use Rattle.ground.specs.House.{packet_bytes}
 use Rattle.lines.specs.Lines.{most}
 use Rattle.pieces.specs.Input.{Between, Reading, more, ended, failed, Turn, turn_of}
-use Rattle.pieces.specs.Piece.{AfterPiece, work_of}
-use Rattle.pieces.specs.declared.reads.Step.{Step}
+use Rattle.text.specs.Text.{shown}
+use Rattle.pieces.specs.Piece.{Held, AfterPiece}
 use Rattle.pieces.specs.declared.reads.Brought.{Brought}
 use Rattle.pieces.specs.declared.reads.Brought.TheVariants.{Bytes, End, Failure}
 
@@ -14,17 +14,12 @@ pub record Fits (piece text : List ℕ) : Type 0 where
   pub room : length piece / packet_bytes * most ≤ length text
 
 -- what is held between two reads: the kept bytes are at the piece's start
-abbrev pub between_of : Step → List ℕ → List ℕ → List ℕ → List ℕ → Between
-between_of s piece store out sets = record { work = work_of s.progress store out sets; kept = take s.rest piece }
+abbrev pub between_of : Held → Between
+between_of h = record { work = h.work; kept = take h.kept h.piece }
 
 -- what is held after a turn: the lines are in the text
 abbrev pub turn_in : AfterPiece → Turn
-turn_in a =
-    record {
-      between = between_of a.step a.piece a.store a.out a.sets;
-      lines = take a.step.progress.at a.text;
-      is_on = a.step.is_on;
-    }
+turn_in a = record { between = between_of a.held; lines = shown a.text; is_on = a.is_on }
 
 -- the bytes that were read behind the kept ones end inside the piece
 abbrev pub EndsIn : Brought → ℕ → List ℕ → Type 0
@@ -39,6 +34,6 @@ reading_of End rest piece = ended
 reading_of Failure rest piece = failed
 
 -- the turn that what was brought makes, and again less than a packet is kept
-pub record IsTurn (s : Step) (brought : Brought) (piece store out sets : List ℕ) (a : AfterPiece) : Type 0 where
-  pub turn : turn_in a ≡ turn_of (between_of s piece store out sets) (reading_of brought s.rest piece)
-  pub rest : a.step.rest < packet_bytes
+pub record IsTurn (h : Held) (brought : Brought) (a : AfterPiece) : Type 0 where
+  pub turn : turn_in a ≡ turn_of (between_of h) (reading_of brought h.kept h.piece)
+  pub rest : a.held.kept < packet_bytes

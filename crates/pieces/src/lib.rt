@@ -4,5 +4,5 @@
 mod packets;
 mod reads;
 
-pub use packets::Progress;
-pub use reads::{Brought, Step, begin, list_read};
+pub use packets::Work;
+pub use reads::{Brought, Piece, begin};

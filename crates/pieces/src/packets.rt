@@ -1,83 +1,52 @@
 // The packets of a piece of the input, listed one after the other.
-ghost use Rattle.std.specs.Prelude.{◌≡◌, ◌+◌, ◌*◌, ◌≤◌, length, take, drop};
-ghost use Rattle.ground.specs.House.{packet_bytes};
-ghost use Rattle.ground.specs.Write.{put};
-ghost use Rattle.text.specs.Text.{up_to};
-ghost use Rattle.pieces.specs.Input.{after_call, next_lines, after_calls, printed};
-ghost use Rattle.pieces.specs.Piece.{work_of};
+ghost use Rattle.std.specs.Prelude.{◌≡◌};
+ghost use Rattle.text.specs.Text.{told_text};
+ghost use Rattle.pieces.specs.Input.{after_call, next_lines, after_calls, whole_in, printed};
+ghost use Rattle.pieces.specs.Piece.{told_work};
 ghost use Rattle.pieces.specs.Steps.{Lists};
 
 use driver::State;
 use packet::PACKET_BYTES;
+use text::Text;
 
-// What goes on from packet to packet: the state, the next packet's index, and where the text ends.
-#[derive(Clone, Copy)]
-pub struct Progress {
+// What goes on from packet to packet: the state, the next packet's index, and what is lent to packet calls.
+#[derive(Drop)]
+pub struct Work<'a> {
     pub state: State,
     pub index: u64,
-    pub at: usize,
+    pub store: &'a mut [u8],
+    pub out: &'a mut [u8],
+    pub sets: &'a mut [u32],
 }
 
-// A packet called, and its lines behind the text.
-pub(crate) fn list_packet(
-    progress: Progress,
-    packet: &[u8],
-    store: &mut [u8],
-    out: &mut [u8],
-    sets: &mut [u32],
-    text: &mut [u8],
-) -> Progress
-    ensures { let w = work_of progress store.old out.old sets.old in
-        Lists (after_call w packet.now) (next_lines w packet.now) (up_to text.old progress.at)
-        (work_of result store.new out.new sets.new) (up_to text.new result.at) }
-{
-    let state = progress.state;
-    let handled = driver::packet(state, packet, store, out, sets);
-    let state = handled.state;
-    let answer = handled.answer;
-    let at = lines::packet(text, progress.at, progress.index, packet, answer, out);
-    Progress {
-        state,
-        index: std::num::wrapping_add_u64(progress.index, 1),
-        at,
+impl Work<'_> {
+    // The output, to be read.
+    fn output(&self) -> &[u8]
+        ensures { result.now ≡ self.now.out.now }
+    {
+        self.out
     }
-}
 
-// The first packets of a piece, one after the other.
-pub(crate) fn list_packets(
-    progress: Progress,
-    piece: &[u8],
-    count: usize,
-    store: &mut [u8],
-    out: &mut [u8],
-    sets: &mut [u32],
-    text: &mut [u8],
-) -> Progress
-    requires { count * packet_bytes ≤ length piece.now }
-    ensures { let w = work_of progress store.old out.old sets.old in
-        Lists (after_calls count w piece.now) (printed count w piece.now) (up_to text.old progress.at)
-        (work_of result store.new out.new sets.new) (up_to text.new result.at) }
-{
-    let mut next = progress;
-    let mut left = count;
-    let mut place: usize = 0;
-    while 0 < left {
-        let end = place + PACKET_BYTES;
-        next = list_packet(next, &piece[place..end], store, out, sets, text);
-        place = end;
-        left -= 1;
+    // A packet called, and its lines behind the text.
+    pub(crate) fn list_packet(&mut self, packet: &[u8], text: &mut Text<'_>)
+        ensures { let w = told_work self.old in
+            Lists (after_call w packet.now) (next_lines w packet.now) (told_text text.old)
+            (told_work self.new) (told_text text.new) }
+    {
+        let handled = driver::packet(self.state, packet, self.store, self.out, self.sets);
+        lines::packet(text, self.index, packet, handled.answer, self.output());
+        self.state = handled.state;
+        self.index = self.index.wrapping_add(1);
     }
-    next
-}
 
-// The bytes of a piece from a place up to its end, moved to its start.
-pub(crate) fn move_rest(piece: &mut [u8], from: usize, size: usize)
-    requires { from + size ≤ length piece.old }
-    ensures { piece.new ≡ put piece.old 0 (take size (drop from piece.old)) }
-{
-    let mut i: usize = 0;
-    while i < size {
-        piece[i] = piece[from + i];
-        i += 1;
+    // The whole packets of a piece, one after the other.
+    pub(crate) fn list_packets(&mut self, piece: &[u8], text: &mut Text<'_>)
+        ensures { let w = told_work self.old in let n = whole_in piece.now in
+            Lists (after_calls n w piece.now) (printed n w piece.now) (told_text text.old)
+            (told_work self.new) (told_text text.new) }
+    {
+        for packet in piece.chunks_exact(PACKET_BYTES) {
+            self.list_packet(packet, text);
+        }
     }
 }

@@ -1,24 +1,17 @@
 // What a read of the input brings, listed: its whole packets, or at the end what is left.
-ghost use Rattle.std.specs.Prelude.{◌≡◌, ◌≤◌, length};
-ghost use Rattle.pieces.specs.Piece.{work_of, told_piece, more_of, ended_of};
+ghost use Rattle.std.specs.Prelude.{◌≡◌, ◌≤◌, true, false, length, take};
+ghost use Rattle.text.specs.Text.{told_text};
+ghost use Rattle.pieces.specs.Piece.{told_work, told_held, told_read, more_of, ended_of};
 ghost use Rattle.pieces.specs.Promises.{Begins, ListsRead};
 
-use crate::packets;
-use crate::packets::Progress;
+use crate::packets::Work;
 use driver::Choice;
 use octets::further;
 use packet::PACKET_BYTES;
 use pid::Pid;
+use text::Text;
 
-// Between two reads: how many bytes of a packet are at the piece's start already, and whether to read on.
-#[derive(Clone, Copy)]
-pub struct Step {
-    pub progress: Progress,
-    pub rest: usize,
-    pub is_on: bool,
-}
-
-// What a read brought: so many bytes, the end of the input, or an error.
+// What a read brought: so many bytes, the end of the input, or an error. No `Result` of `read`: of what is left, the end makes a packet, and no bytes and an error don't.
 #[derive(Clone, Copy)]
 pub enum Brought {
     Bytes(usize),
@@ -26,98 +19,77 @@ pub enum Brought {
     Failure,
 }
 
-// A fresh state with a filter on PID 0 that lets all tables through.
-pub fn begin() -> Step
-    ensures { Begins result }
+// Where reads go: how many bytes of a packet are at its start already.
+#[derive(Drop)]
+pub struct Piece<'a> {
+    pub bytes: &'a mut [u8],
+    pub kept: usize,
+}
+
+// A fresh state with a filter on PID 0 that lets all tables through, and the memory for its packets.
+pub fn begin<'a>(store: &'a mut [u8], out: &'a mut [u8], sets: &'a mut [u32]) -> Work<'a>
+    ensures { Begins store.entry out.entry sets.entry (told_work result) }
 {
     let opened = driver::open(driver::fresh(), Pid::PROGRAM_ASSOCIATION, Choice::All);
-    let state = opened.state;
-    Step {
-        progress: Progress {
-            state,
-            index: 0,
-            at: 0,
-        },
-        rest: 0,
-        is_on: true,
+    Work {
+        state: opened.state,
+        index: 0,
+        store,
+        out,
+        sets,
     }
 }
 
-// A piece's whole packets listed in an empty text, and what is left of the piece moved to its start.
-fn list_more(
-    progress: Progress,
-    end: usize,
-    piece: &mut [u8],
-    store: &mut [u8],
-    out: &mut [u8],
-    sets: &mut [u32],
-    text: &mut [u8],
-) -> Step
-    requires { end ≤ length piece.old }
-    ensures { told_piece result piece.new store.new out.new sets.new text.new
-        ≡ more_of (work_of progress store.old out.old sets.old) end piece.old text.old }
-{
-    let mut first = progress;
-    first.at = 0;
-    let next = packets::list_packets(first, piece, end / PACKET_BYTES, store, out, sets, text);
-    packets::move_rest(piece, end - end % PACKET_BYTES, end % PACKET_BYTES);
-    Step {
-        progress: next,
-        rest: end % PACKET_BYTES,
-        is_on: true,
+impl Piece<'_> {
+    // The first bytes, to be read: as many as there are at most.
+    fn first(&self, size: usize) -> &[u8]
+        ensures { result.now ≡ take size self.now.bytes.now }
+    {
+        text::first(self.bytes, size)
     }
-}
 
-// The kept bytes at the end of the input, listed in an empty text.
-fn list_end(
-    step: Step,
-    piece: &[u8],
-    store: &mut [u8],
-    out: &mut [u8],
-    sets: &mut [u32],
-    text: &mut [u8],
-) -> Step
-    ensures { told_piece result piece.now store.new out.new sets.new text.new
-        ≡ ended_of (work_of step.progress store.old out.old sets.old) step.rest piece.now text.old }
-{
-    let mut progress = step.progress;
-    progress.at = 0;
-    if 0 < step.rest {
-        let kept = text::first(piece, step.rest);
-        progress = packets::list_packet(progress, kept, store, out, sets, text);
+    // The whole packets listed in an empty text, and what is left of the piece moved to its start.
+    fn list_more(&mut self, end: usize, work: &mut Work<'_>, text: &mut Text<'_>)
+        requires { end ≤ length self.old.bytes.now }
+        ensures { told_read self.new work.new text.new true ≡ more_of (told_held self.old work.old) end (told_text text.old) }
+    {
+        text.clear();
+        work.list_packets(self.first(end), text);
+        let rest = end % PACKET_BYTES;
+        self.bytes.copy_within(end - rest..end, 0);
+        self.kept = rest;
     }
-    Step {
-        progress,
-        rest: 0,
-        is_on: false,
-    }
-}
 
-// What a read brought behind the kept bytes, listed in an empty text.
-pub fn list_read(
-    step: Step,
-    brought: Brought,
-    piece: &mut [u8],
-    store: &mut [u8],
-    out: &mut [u8],
-    sets: &mut [u32],
-    text: &mut [u8],
-) -> Step
-    ensures { ListsRead step brought piece.old store.old out.old sets.old text.old
-        (result, piece.new, store.new, out.new, sets.new, text.new) }
-{
-    match brought {
-        Brought::Bytes(size) => {
-            let end = further(step.rest, size, piece.len());
-            let progress = step.progress;
-            list_more(progress, end, piece, store, out, sets, text)
+    // The kept bytes at the end of the input, listed in an empty text.
+    fn list_end(&mut self, work: &mut Work<'_>, text: &mut Text<'_>)
+        ensures { told_read self.new work.new text.new false ≡ ended_of (told_held self.old work.old) (told_text text.old) }
+    {
+        let kept = self.kept;
+        text.clear();
+        if 0 < kept {
+            work.list_packet(self.first(kept), text);
         }
-        Brought::End => list_end(step, piece, store, out, sets, text),
-        Brought::Failure => {
-            let mut last = step;
-            last.progress.at = 0;
-            last.is_on = false;
-            last
+        self.kept = 0;
+    }
+
+    // What a read brought behind the kept bytes, listed in an empty text; whether to read on, which the promise has as a truth value (`ListsRead`).
+    pub fn list_read(&mut self, brought: Brought, work: &mut Work<'_>, text: &mut Text<'_>) -> bool
+        ensures { ListsRead (told_held self.old work.old) brought (told_text text.old) (told_read self.new work.new text.new result) }
+    {
+        match brought {
+            Brought::Bytes(size) => {
+                let end = further(self.kept, size, self.bytes.len());
+                self.list_more(end, work, text);
+                true
+            }
+            Brought::End => {
+                self.list_end(work, text);
+                false
+            }
+            Brought::Failure => {
+                text.clear();
+                false
+            }
         }
     }
 }

@@ -10,7 +10,7 @@ use lib.ListN.{length, get_or, length-map}
 use Rattle.ground.specs.Answer.{refused, given}
 use Rattle.ground.specs.Refusal.{judge, Silent}
 use Rattle.ground.proofs.Judged.{given_by, is_refused_lem, passed_over, stays_refused}
-use Rattle.ground.proofs.Refusal.{yes≤, no≤, accepted}
+use Rattle.ground.proofs.Refused.{yes≤, no≤, accepted}
 use Rattle.psi.specs.Section.{word_at}
 use Rattle.loops.specs.Loop.{Descriptor, Entry}
 use Rattle.loops.specs.Body.{streams_of, pmt_refusals, entry_at, loops_of, loop_at, descriptor_at}
@@ -75,9 +75,6 @@ module _ (s : List ℕ) (i : ℕ) (f : Found) (e : walk_of s (i + 1) 0 ≡ given
 
   entry_on : pmt_entry_of s i ≡ judge refused (pmt_missing s i) (given (stream_of own))
   entry_on = passed_over (stream_of own) (pmt_refusals s) (pmt_missing s i) (silent s (i + 1) 0 f e)
-
-  pub entry_missing : f.entries ≤ i → pmt_entry_of s i ≡ refused 27
-  entry_missing h = entry_on ∙ sym (yes≤ _ _ _ _ (rw entry_found at h) refl)
 
   module _ (h : i < f.entries) where
     listed : i < length (streams_of s).items

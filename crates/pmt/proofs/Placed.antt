@@ -15,7 +15,7 @@ use Rattle.ground.specs.Refusal.{Row, Silent, ◌when◌}
 use Rattle.ground.specs.Walk.{Every}
 use Rattle.ground.proofs.Judged.{given_by, judge_ind}
 use Rattle.ground.proofs.Walk.{every_at, every_of}
-use Rattle.ground.proofs.Refusal.{silent_both}
+use Rattle.ground.proofs.Refused.{silent_both}
 use Rattle.ground.proofs.Part.{slice_take}
 use Rattle.ground.proofs.Test.{both_true}
 use Rattle.psi.specs.Section.{word_of, word_at}

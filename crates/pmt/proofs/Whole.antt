@@ -14,7 +14,7 @@ use Rattle.ground.specs.Write.{put, Rest}
 use Rattle.ground.proofs.Answer.{given_same}
 use Rattle.ground.proofs.Judged.{passed_over, exact_call}
 use Rattle.ground.proofs.Part.{slice_take}
-use Rattle.ground.proofs.Refusal.{no≤, accepted}
+use Rattle.ground.proofs.Refused.{no≤, accepted}
 use Rattle.ground.proofs.Write.{put_item, put_rest}
 use Rattle.psi.specs.Loop.{Loop, joined}
 use Rattle.loops.specs.Loop.{Descriptor, Entry, descriptors_of}

@@ -1,5 +1,7 @@
 -- All of a PMT's entries, written to four lent lists in one reading (document 01, Tables).
 use Rattle.std.specs.Prelude.{List, ◌∷◌, map, ℕ, ◌+◌, ltb, length}
+use Rattle.std.specs.declared.result.Result.{Result}
+use Rattle.ground.specs.declared.Refusal.{Refusal}
 use Rattle.ground.specs.Answer.{Answer, refused, given}
 use Rattle.ground.specs.Number.{bits}
 use Rattle.ground.specs.Refusal.{Row, judge, ◌when◌}
@@ -59,7 +61,7 @@ pub record Listed : Type 0 where
   pub lists : Lists
 
 -- the same of the call's answer and the lists after it
-abbrev pub listed : PmtListed → Lists → Listed
+abbrev pub listed : Result PmtListed Refusal → Lists → Listed
 listed r l = record { answer = told_pmt_listed r; lists = l }
 
 -- "A refusal gives its number alone .. and writes nothing"

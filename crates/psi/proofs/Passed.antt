@@ -6,11 +6,9 @@ use Prim.Native.Nat.{ℕ, ◌+◌, ◌≤◌}
 use borrow.Author.Tests.{ltb-false, eqb-true, not-false}
 use lib.Dec.{eqb}
 use lib.ListN.{length}
-use Rattle.ground.specs.Answer.{given}
 use Rattle.ground.specs.Refusal.{Silent}
-use Rattle.ground.proofs.Judged.{given_by}
 use Rattle.section.specs.Section.{section_length}
-use Rattle.psi.specs.Refusals.{shared, verdict_of}
+use Rattle.psi.specs.Refusals.{shared}
 
 -- ---- the rows that a PAT and a PMT share
 pub record Passed (least : ℕ) (s : List ℕ) : Type 0 where
@@ -24,6 +22,3 @@ passed asked least s q = record {
   enough = ltb-false (section_length s) least q.1.1.1.1.1.1.1.0;
   short = ltb-false 1021 (section_length s) q.1.1.1.1.1.1.0;
 }
-
-pub fine : (asked least : ℕ) (s : List ℕ) → verdict_of (shared asked least s) ≡ given tt → Passed least s
-fine asked least s e = passed asked least s (given_by (shared asked least s) tt tt e).0

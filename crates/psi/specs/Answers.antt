@@ -1,9 +1,10 @@
 -- What each public call's answer says in document 01's terms.
 use Rattle.std.specs.Prelude.{Bool, ℕ}
-use Rattle.ground.specs.Answer.{Answer, refused, given}
+use Rattle.std.specs.declared.result.Result.{Result}
+use Rattle.ground.specs.Answer.{Answer}
+use Rattle.ground.specs.Told.{told}
+use Rattle.ground.specs.declared.Refusal.{Refusal}
 use Rattle.psi.specs.declared.Head.{Head}
-use Rattle.psi.specs.declared.Judged.{Judged}
-use Rattle.psi.specs.declared.Judged.TheVariants as judged
 
 -- "Bytes 3 to 7 of a section: id (16 bits), reserved, version (5), current/next, section number, last number"
 pub record Heading : Type 0 where
@@ -22,6 +23,5 @@ abbrev pub Verdict : Type 0
 Verdict = Answer (Unit {0})
 
 -- what the code's verdict says
-abbrev pub told_judged : Judged → Verdict
-told_judged judged.Fine = given tt
-told_judged (judged.Refused n) = refused n
+abbrev pub told_judged : Result (Unit {0}) Refusal → Verdict
+told_judged = told (λ (leave : Unit {0}). leave)

@@ -7,7 +7,7 @@ use Rattle.psi.specs.Promises.{ReadsHead, Judges}
 
 pub record Claims : Type 0 where
   -- any two outcomes that the promise of `head_of` admits are equal
-  pub reads_head : (third fourth fifth sixth seventh : ℕ) → Determined (ReadsHead third fourth fifth sixth seventh)
+  pub reads_head : (five : List ℕ) → Determined (ReadsHead five)
   -- any two outcomes that the promise of `judge` admits are equal
   pub judges : (s : List ℕ) (asked least : ℕ) → Determined (Judges s asked least)
   -- a section is refused by what a PAT and a PMT share, and by which number, exactly as the table says

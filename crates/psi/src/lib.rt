@@ -3,6 +3,7 @@
 
 ghost use Rattle.psi.specs.Promises.{ReadsHead, Judges};
 
+use ground::Refusal;
 use octets::number_of_two;
 use section::{LONGEST_LENGTH, length_of};
 
@@ -16,17 +17,11 @@ pub struct Head {
     pub last: u8,
 }
 
-// Whether a section is refused.
-#[derive(Clone, Copy)]
-pub enum Judged {
-    Fine,
-    Refused(u8),
-}
-
 // The fields of a section's bytes 3 to 7.
-pub fn head_of(third: u8, fourth: u8, fifth: u8, sixth: u8, seventh: u8) -> Head
-    ensures { ReadsHead third fourth fifth sixth seventh result }
+pub fn head_of(bytes: [u8; 5]) -> Head
+    ensures { ReadsHead bytes result }
 {
+    let [third, fourth, fifth, sixth, seventh] = bytes;
     Head {
         id: number_of_two(third, fourth),
         version: fifth / 2 % 32,
@@ -37,37 +32,24 @@ pub fn head_of(third: u8, fourth: u8, fifth: u8, sixth: u8, seventh: u8) -> Head
 }
 
 // Judges a section by what a PAT and a PMT share: its size, table_id, syntax bits, least length and CRC_32.
-pub fn judge(section: &[u8], table: u8, least: usize) -> Judged
+pub fn judge(section: &[u8], table: u8, least: usize) -> Result<(), Refusal>
     ensures { Judges section.now table least result }
 {
-    let size = section.len();
-    if size < 3 {
-        return Judged::Refused(20);
+    let &[table_id, second, third, ..] = section else {
+        return Err(Refusal::SectionSize);
+    };
+    let length = length_of(second, third);
+    if LONGEST_LENGTH < length || section.len() != 3 + length {
+        Err(Refusal::SectionSize)
+    } else if table_id != table {
+        Err(Refusal::OtherTable)
+    } else if second / 128 % 2 != 1 || second / 64 % 2 != 0 {
+        Err(Refusal::SyntaxBits)
+    } else if 1021 < length || length < least {
+        Err(Refusal::SectionLength)
+    } else if crc::residue(section) != 0 {
+        Err(Refusal::WrongCrc)
+    } else {
+        Ok(())
     }
-    let length = length_of(section[1], section[2]);
-    if LONGEST_LENGTH < length {
-        return Judged::Refused(20);
-    }
-    if size != 3 + length {
-        return Judged::Refused(20);
-    }
-    if section[0] != table {
-        return Judged::Refused(23);
-    }
-    if section[1] / 128 % 2 != 1 {
-        return Judged::Refused(21);
-    }
-    if section[1] / 64 % 2 != 0 {
-        return Judged::Refused(21);
-    }
-    if 1021 < length {
-        return Judged::Refused(25);
-    }
-    if length < least {
-        return Judged::Refused(25);
-    }
-    if crc::residue(section) != 0 {
-        return Judged::Refused(22);
-    }
-    Judged::Fine
 }

@@ -1,5 +1,6 @@
 -- A record is given where no row applies: then the stretch has a rate, which is a finite double, and the record stays in order.
 -- Assumes nothing.
+use Rattle.std.specs.Prelude.{None, Some}
 use mathlib.Core.Path.{◌≡◌, refl, sym, ◌∙◌, ap}
 use mathlib.Core.Bool.{Bool, true, false, cond, not, false≢true}
 use mathlib.Core.Logic.{◌⊎◌, inl, inr}
@@ -17,7 +18,7 @@ use borrow.Author.Tests.{ltb-false, lt-ltb, le-ltb, leb-false, le-leb, lt-leb, e
 use Rattle.ground.specs.Answer.{Answer, refused, given}
 use Rattle.ground.proofs.Answer.{given_apart, refused_same}
 use Rattle.ground.proofs.Judged.{given_by, judge_ind}
-use Rattle.ground.proofs.Refusal.{accepted}
+use Rattle.ground.proofs.Refused.{accepted}
 use Rattle.ground.proofs.Test.{both_true, true_both, either_way}
 use Rattle.clock.specs.Range.{reference_turn}
 use Rattle.clock.specs.Difference.{reference_forward_refusals, reference_forward}
@@ -25,8 +26,7 @@ use Rattle.clock.proofs.ClockSums.{clock_sums}
 use Rattle.rates.specs.Rate.{byte_rate, ticks_of, is_ordered, is_unordered, lower, higher, with_rate, rate_refusals}
 use Rattle.rates.specs.Laws.{Stretch, Ordered, HasRate, rate_along, rated_with}
 use Rattle.rates.specs.declared.Rates.{Rates}
-use Rattle.rates.specs.declared.Known.{Known}
-use Rattle.rates.specs.declared.Known.TheVariants as known
+use Rattle.std.specs.declared.option.Option.{Option}
 use Rattle.rates.proofs.Doubles.{not_lt_le, le_self, left_no_nan, right_no_nan}
 use Rattle.rates.proofs.Nearest.{round_finite}
 
@@ -85,19 +85,19 @@ rate_rises bytes more ticks fewer h k p =
     (mul-le-mul (mul-le-mul_right 27000000 h) k))
 
 -- ---- the test of a record's order
-pub record_order : (r : Rates) → is_ordered r ≡ true → Ordered (known.Record r)
+pub record_order : (r : Rates) → is_ordered r ≡ true → Ordered (Some r)
 record_order r e = both_true (le r.lowest r.latest) (le r.latest r.highest) e
 
 -- it is passed exactly where the order is there
-pub passes_order : (k : Known) → is_unordered k ≡ false → Ordered k
-passes_order known.Nothing e = tt
-passes_order (known.Record r) e = record_order r (not-false (is_ordered r) e)
+pub passes_order : (k : Option Rates) → is_unordered k ≡ false → Ordered k
+passes_order None e = tt
+passes_order (Some r) e = record_order r (not-false (is_ordered r) e)
 
-pub order_passes : (k : Known) → Ordered k → is_unordered k ≡ false
-order_passes known.Nothing o = refl
-order_passes (known.Record r) o = ap not (true_both (le r.lowest r.latest) (le r.latest r.highest) o.0 o.1)
+pub order_passes : (k : Option Rates) → Ordered k → is_unordered k ≡ false
+order_passes None o = refl
+order_passes (Some r) o = ap not (true_both (le r.lowest r.latest) (le r.latest r.highest) o.0 o.1)
 
-pub unordered_fails : (k : Known) → (Ordered k → ⊥) → is_unordered k ≡ true
+pub unordered_fails : (k : Option Rates) → (Ordered k → ⊥) → is_unordered k ≡ true
 unordered_fails k never = go (is_unordered k) refl
   where
     go : (b : Bool) → is_unordered k ≡ b → is_unordered k ≡ true
@@ -106,7 +106,7 @@ unordered_fails k never = go (is_unordered k) refl
 
 -- ---- the record
 -- it is given with no row, and the rows say that the stretch has a rate
-pub given_has : (k : Known) (s : Stretch) (r : Rates) → rated_with k s ≡ given r
+pub given_has : (k : Option Rates) (s : Stretch) (r : Rates) → rated_with k s ≡ given r
     → (is_unordered k ≡ false) × HasRate s × (r ≡ with_rate k (rate_along s))
 given_has k s r e =
     let found = given_by (rate_refusals k s.bytes s.later s.earlier) (with_rate k (rate_along s)) r e in
@@ -122,13 +122,13 @@ given_has k s r e =
     )
 
 -- and back
-pub has_given : (k : Known) (s : Stretch) → is_unordered k ≡ false → HasRate s → rated_with k s ≡ given (with_rate k (rate_along s))
+pub has_given : (k : Option Rates) (s : Stretch) → is_unordered k ≡ false → HasRate s → rated_with k s ≡ given (with_rate k (rate_along s))
 has_given k s e h =
     accepted refused (given (with_rate k (rate_along s))) (rate_refusals k s.bytes s.later s.earlier)
     (e, (lt-leb reference_turn s.later h.later_in_range, (lt-leb reference_turn s.earlier h.earlier_in_range, (le-ltb 333599972 s.bytes h.few_bytes, (ne_eqb (ticks_in s) 0 (some_ticks s h), tt)))))
 
 -- ---- each refusal where the rows before it do not apply
-module _ (k : Known) (s : Stretch) (ordered : is_unordered k ≡ false) where
+module _ (k : Option Rates) (s : Stretch) (ordered : is_unordered k ≡ false) where
   pub range_refused : (reference_turn ≤ s.later) ⊎ (reference_turn ≤ s.earlier) → rated_with k s ≡ refused 40
   range_refused (inl h) = rw (ordered, le-leb reference_turn s.later h)
   range_refused (inr h) = rw (ordered, le-leb reference_turn s.earlier h) (either_way (leb reference_turn s.later) (refused 40))
@@ -158,16 +158,16 @@ higher_least x old p q = go (lt old x) refl
     go false e = not_lt_le old x q p e
 
 -- so a record in order with a rate more is in order
-with_ordered : (k : Known) (x : Float) → is_unordered k ≡ false → is_nan x ≡ false → is_ordered (with_rate k x) ≡ true
-with_ordered known.Nothing x e p = true_both (le x x) (le x x) (le_self x p) (le_self x p)
-with_ordered (known.Record r) x e p =
-    let order = passes_order (known.Record r) e in
+with_ordered : (k : Option Rates) (x : Float) → is_unordered k ≡ false → is_nan x ≡ false → is_ordered (with_rate k x) ≡ true
+with_ordered None x e p = true_both (le x x) (le x x) (le_self x p) (le_self x p)
+with_ordered (Some r) x e p =
+    let order = passes_order (Some r) e in
     true_both (le (lower x r.lowest) x) (le x (higher x r.highest))
     (lower_most x r.lowest p (left_no_nan r.lowest r.latest order.0))
     (higher_least x r.highest p (right_no_nan r.latest r.highest order.1))
 
 -- a record that was given is in order
-pub given_ordered : (k : Known) (s : Stretch) (r : Rates) → rated_with k s ≡ given r → is_ordered r ≡ true
+pub given_ordered : (k : Option Rates) (s : Stretch) (r : Rates) → rated_with k s ≡ given r → is_ordered r ≡ true
 given_ordered k s r e =
     let found = given_has k s r e in
     rw found.2 (with_ordered k (rate_along s) found.0 (rate_no_nan s.bytes (ticks_in s) found.1.few_bytes (ticks_pos s found.1)))
@@ -182,9 +182,9 @@ ordered_numbers r e =
     )
 
 -- and the next call does not refuse it: no other row has that number
-pub ordered_goes_on : (r : Rates) (s : Stretch) → is_ordered r ≡ true → rated_with (known.Record r) s ≡ refused 82 → ⊥
+pub ordered_goes_on : (r : Rates) (s : Stretch) → is_ordered r ≡ true → rated_with (Some r) s ≡ refused 82 → ⊥
 ordered_goes_on r s o =
-    judge_ind refused (λ (a : Answer Rates). a ≡ refused 82 → ⊥) (rate_refusals (known.Record r) s.bytes s.later s.earlier) _
+    judge_ind refused (λ (a : Answer Rates). a ≡ refused 82 → ⊥) (rate_refusals (Some r) s.bytes s.later s.earlier) _
     (λ e f. false≢true (sym (ap not o) ∙ e), (λ e. other 40 refl, (λ e. other 40 refl, (λ e. other 80 refl, (λ e. other 81 refl, tt)))))
     (λ e f. given_apart f)
   where

@@ -1,5 +1,6 @@
 -- By induction over the calls: the first rate is taken into what is known, and of the others it is known already.
 -- Assumes nothing.
+use Rattle.std.specs.Prelude.{None, Some}
 use mathlib.Core.Path.{◌≡◌, refl, sym, ◌∙◌, ap, subst}
 use mathlib.Core.Bool.{Bool, true, false, cond}
 use mathlib.Core.List.{List, [], ◌∷◌, ◌++◌, map, nil≢cons}
@@ -9,8 +10,7 @@ use Rattle.ground.specs.Walk.{Every}
 use Rattle.rates.specs.Rate.{is_unordered, with_rate}
 use Rattle.rates.specs.Laws.{Stretch, Ordered, HasRate, rate_along, RatedAlong, FirstBest, FirstLowest, is_above, is_at_least, FirstHighest, Keeps}
 use Rattle.rates.specs.declared.Rates.{Rates}
-use Rattle.rates.specs.declared.Known.{Known}
-use Rattle.rates.specs.declared.Known.TheVariants as known
+use Rattle.std.specs.declared.option.Option.{Option}
 use Rattle.rates.proofs.Doubles.{not_lt_le, lt_le, le_not, lt_through, le_through}
 use Rattle.rates.proofs.Given.{ticks_pos, rate_no_nan, given_has, has_given, record_order, order_passes, given_ordered, ordered_numbers}
 
@@ -106,10 +106,10 @@ last_same v w (x ∷ front) (y ∷ other) e = let tail : front ++ v ∷ [] ≡ o
 
 -- ---- the record
 -- a rate more, taken in before all others
-one_more : (k : Known) (x : Float) (rates : List Float) (r : Rates) → is_unordered k ≡ false → is_nan x ≡ false → Keeps (known.Record (with_rate k x)) rates r
+one_more : (k : Option Rates) (x : Float) (rates : List Float) (r : Rates) → is_unordered k ≡ false → is_nan x ≡ false → Keeps (Some (with_rate k x)) rates r
     → Keeps k (x ∷ rates) r
-one_more known.Nothing x rates r e p f = record { latest = f.latest; lowest = f.lowest; highest = f.highest }
-one_more (known.Record old) x rates r e p f =
+one_more None x rates r e p f = record { latest = f.latest; lowest = f.lowest; highest = f.highest }
+one_more (Some old) x rates r e p f =
     record {
       latest = (old.latest ∷ f.latest.0, ap (λ (l : List Float). old.latest ∷ l) f.latest.1);
       lowest = below (lt x old.lowest) refl f.lowest;
@@ -133,19 +133,19 @@ one_alone : {beats holds : Float → Float → Bool} (x : Float) → FirstBest b
 one_alone x = record { earlier = []; later = []; split = refl; beaten = tt; held = tt }
 
 -- of all
-pub keeps : (k : Known) (stretches : List Stretch) (r : Rates) → RatedAlong k stretches (known.Record r) → Keeps k (map rate_along stretches) r
-keeps k [] r e = subst (λ (l : Known). Keeps l [] r) (sym e) (record { latest = ([], refl); lowest = one_alone r.lowest; highest = one_alone r.highest })
+pub keeps : (k : Option Rates) (stretches : List Stretch) (r : Rates) → RatedAlong k stretches (Some r) → Keeps k (map rate_along stretches) r
+keeps k [] r e = subst (λ (l : Option Rates). Keeps l [] r) (sym e) (record { latest = ([], refl); lowest = one_alone r.lowest; highest = one_alone r.highest })
 keeps k (s ∷ later) r (next, e, rest) =
     let found = given_has k s next e in
     one_more k (rate_along s) (map rate_along later) r found.0 (rate_no_nan _ _ found.1.few_bytes (ticks_pos s found.1))
-    (subst (λ (l : Rates). Keeps (known.Record l) (map rate_along later) r) found.2 (keeps (known.Record next) later r rest))
+    (subst (λ (l : Rates). Keeps (Some l) (map rate_along later) r) found.2 (keeps (Some next) later r rest))
 
 -- three doubles fix a record
 abbrev all_three : Float → Float → Float → Rates
 all_three x y z = record { lowest = x; latest = y; highest = z }
 
 -- so no other record meets it
-pub only : (k : Known) (rates : List Float) (r other : Rates) → Keeps k rates r → Keeps k rates other → r ≡ other
+pub only : (k : Option Rates) (rates : List Float) (r other : Rates) → Keeps k rates r → Keeps k rates other → r ≡ other
 only k rates r other f g =
     let a = first_same lowest_first r.lowest other.lowest _ f.lowest g.lowest in
     let b = last_same r.latest other.latest f.latest.0 g.latest.0 (sym f.latest.1 ∙ g.latest.1) in
@@ -154,10 +154,10 @@ only k rates r other f g =
     same
 
 -- nothing ends the calls but a stretch that has no rate
-pub runs : (k : Known) (stretches : List Stretch) → Ordered k → Every HasRate stretches → (l : Known) × RatedAlong k stretches l
+pub runs : (k : Option Rates) (stretches : List Stretch) → Ordered k → Every HasRate stretches → (l : Option Rates) × RatedAlong k stretches l
 runs k [] e each = (k, refl)
 runs k (s ∷ later) e each =
     let next = with_rate k (rate_along s) in
     let is = has_given k s (order_passes k e) each.0 in
-    let on = runs (known.Record next) later (record_order next (given_ordered k s next is)) each.1 in
+    let on = runs (Some next) later (record_order next (given_ordered k s next is)) each.1 in
     (on.0, (next, is, on.1))

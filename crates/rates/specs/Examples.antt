@@ -1,13 +1,12 @@
 -- Rates and records by their bits.
-use Rattle.std.specs.Prelude.{◌≡◌, List, [], ◌∷◌, ℕ}
+use Rattle.std.specs.Prelude.{None, Some, ◌≡◌, List, [], ◌∷◌, ℕ}
 use Rattle.std.specs.Float.{binary64}
 use Rattle.std.specs.Float.Ieee.{to_bits, of_bits}
 use Rattle.ground.specs.Answer.{refused, given}
 use Rattle.ground.specs.Walk.{Every}
 use Rattle.rates.specs.Rate.{byte_rate, rated}
 use Rattle.rates.specs.declared.Rates.{Rates}
-use Rattle.rates.specs.declared.Known.{Known}
-use Rattle.rates.specs.declared.Known.TheVariants as known
+use Rattle.std.specs.declared.option.Option.{Option}
 
 -- so many bytes in so many ticks have the rate of these bits
 pub record Example : Type 0 where
@@ -36,17 +35,17 @@ rate_examples =
 abbrev pub rates_of : ℕ → ℕ → ℕ → Rates
 rates_of a b c = record { lowest = of_bits binary64 a; latest = of_bits binary64 b; highest = of_bits binary64 c }
 
-abbrev pub record_of : ℕ → ℕ → ℕ → Known
-record_of a b c = known.Record (rates_of a b c)
+abbrev pub record_of : ℕ → ℕ → ℕ → Option Rates
+record_of a b c = Some (rates_of a b c)
 
 -- (0, NaN, ∞)
-abbrev pub with_nan : Known
+abbrev pub with_nan : Option Rates
 with_nan = record_of 0 0x7FF8000000000000 0x7FF0000000000000
 
 pub record Examples : Type 0 where
   pub rates : Every (λ (x : Example). to_bits binary64 (byte_rate x.bytes x.ticks) ≡ x.bits) rate_examples
   -- "The first rate comes with no record and fills all three"; and over the turn
-  pub first : rated known.Nothing 188 0 2576980377599 ≡ given (rates_of 0x41F2E8D9D0000000 0x41F2E8D9D0000000 0x41F2E8D9D0000000)
+  pub first : rated None 188 0 2576980377599 ≡ given (rates_of 0x41F2E8D9D0000000 0x41F2E8D9D0000000 0x41F2E8D9D0000000)
   -- a lower one
   pub lowered : rated (record_of 0x40B3D40000000000 0x40B3D40000000000 0x40B3D40000000000) 188 2000000 0
       ≡ given (rates_of 0x40A3D40000000000 0x40A3D40000000000 0x40B3D40000000000)
@@ -57,6 +56,6 @@ pub record Examples : Type 0 where
   pub highest_kept : rated (record_of 0xFFF0000000000000 0x8000000000000000 0x8000000000000000) 0 1 0 ≡ given (rates_of 0xFFF0000000000000 0 0x8000000000000000)
   -- a NaN is in no order, whatever else is wrong: the refusals in their order
   pub nan_refused : rated with_nan 333599973 2576980377600 2576980377600 ≡ refused 82
-  pub range_refused : rated known.Nothing 333599973 2576980377600 2576980377600 ≡ refused 40
-  pub bytes_refused : rated known.Nothing 333599973 1 1 ≡ refused 80
-  pub equal_refused : rated known.Nothing 5 1 1 ≡ refused 81
+  pub range_refused : rated None 333599973 2576980377600 2576980377600 ≡ refused 40
+  pub bytes_refused : rated None 333599973 1 1 ≡ refused 80
+  pub equal_refused : rated None 5 1 1 ≡ refused 81

@@ -7,7 +7,8 @@ ghost use Rattle.rates.specs.Steps.{rated_over};
 ghost use Rattle.rates.specs.Promises.{GivesRate};
 
 use clock::reference;
-use clock::reference::{Ahead, Reference};
+use clock::reference::Reference;
+use ground::Refusal;
 
 pub mod laws;
 
@@ -17,19 +18,6 @@ pub struct Rates {
     pub lowest: f64,
     pub latest: f64,
     pub highest: f64,
-}
-
-// What is known before a rate: nothing yet, or the record that the rate before it gave.
-#[derive(Clone, Copy)]
-pub enum Known {
-    Nothing,
-    Record(Rates),
-}
-
-#[derive(Clone, Copy)]
-pub enum Rated {
-    Record(Rates),
-    Refused(u8),
 }
 
 // The clock of 27 MHz.
@@ -46,12 +34,12 @@ fn is_ordered(r: Rates) -> bool
 }
 
 // Whether a record was given in which that does not hold.
-fn is_unordered(known: Known) -> bool
+fn is_unordered(known: Option<Rates>) -> bool
     ensures { result ≡ is_unordered known }
 {
     match known {
-        Known::Nothing => false,
-        Known::Record(r) => !is_ordered(r),
+        None => false,
+        Some(r) => !is_ordered(r),
     }
 }
 
@@ -78,16 +66,16 @@ fn higher(new: f64, old: f64) -> f64
 }
 
 // What is known with one rate more.
-fn with_rate(known: Known, rate: f64) -> Rates
+fn with_rate(known: Option<Rates>, rate: f64) -> Rates
     ensures { result ≡ with_rate known rate }
 {
     match known {
-        Known::Nothing => Rates {
+        None => Rates {
             lowest: rate,
             latest: rate,
             highest: rate,
         },
-        Known::Record(r) => Rates {
+        Some(r) => Rates {
             lowest: lower(rate, r.lowest),
             latest: rate,
             highest: higher(rate, r.highest),
@@ -96,29 +84,31 @@ fn with_rate(known: Known, rate: f64) -> Rates
 }
 
 // The rate of so many bytes in so many ticks, taken into what is known.
-fn rated_over(known: Known, bytes: u64, ticks: u64) -> Rated
+fn rated_over(known: Option<Rates>, bytes: u64, ticks: u64) -> Result<Rates, Refusal>
     requires { ticks < 2 ^ 53 }
     ensures { told_rates result ≡ rated_over known bytes ticks }
 {
     if MOST_BYTES < bytes {
-        return Rated::Refused(80);
+        return Err(Refusal::RateBytes);
     }
     if ticks == 0 {
-        return Rated::Refused(81);
+        return Err(Refusal::RateTicks);
     }
-    Rated::Record(with_rate(known, byte_rate(bytes, ticks)))
+    Ok(with_rate(known, byte_rate(bytes, ticks)))
 }
 
 // The rate of the bytes between two clock references, taken into what is known.
-pub fn rate(known: Known, bytes: u64, later: Reference, earlier: Reference) -> Rated
+pub fn rate(
+    known: Option<Rates>,
+    bytes: u64,
+    later: Reference,
+    earlier: Reference,
+) -> Result<Rates, Refusal>
     ensures { GivesRate known bytes later.0 earlier.0 result }
 {
     if is_unordered(known) {
-        return Rated::Refused(82);
+        return Err(Refusal::RateRecord);
     }
-    let ahead = reference::forward(later, earlier);
-    match ahead {
-        Ahead::Refused(n) => Rated::Refused(n),
-        Ahead::Ticks(ticks) => rated_over(known, bytes, ticks),
-    }
+    let ticks = reference::forward(later, earlier)?;
+    rated_over(known, bytes, ticks)
 }

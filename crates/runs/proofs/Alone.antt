@@ -9,7 +9,7 @@ use borrow.Author.Tests.{eqb-true, ne_eqb, lt-ltb}
 use lib.Dec.{eqb}
 use lib.ListN.{length}
 use Rattle.ground.specs.Answer.{Answer, refused, given}
-use Rattle.ground.specs.Perhaps.{there}
+use Rattle.std.specs.Prelude.{Some}
 use Rattle.ground.specs.Refusal.{Row, judge}
 use Rattle.ground.specs.Walk.{keep}
 use Rattle.ground.proofs.Judged.{judge_seen}
@@ -117,7 +117,7 @@ packet_unseen see h p lent same =
     go true e = e
     go false e = refl
 
-module _ (w : World) (h : List AcceptedCall) (l : Ledger w h) (f : OpenedFilter) (came : opening_of f.number h ≡ there f) where
+module _ (w : World) (h : List AcceptedCall) (l : Ledger w h) (f : OpenedFilter) (came : opening_of f.number h ≡ Some f) where
   -- its number is not given again
   not_next : numbers_given h + 1 ≡ f.number → ⊥
   not_next e = let b = (l.given f.number f came).1 in let n = l.numbers in omega arith
@@ -127,14 +127,14 @@ module _ (w : World) (h : List AcceptedCall) (l : Ledger w h) (f : OpenedFilter)
   new pid choice = record { number = numbers_given h + 1; pid = pid; choice = choice; place = lowest_free h }
 
   -- ---- its open stays
-  pub step_opened : (c : Call) → opening_of f.number (accepted_by (answer_to h c) ++ h) ≡ there f
+  pub step_opened : (c : Call) → opening_of f.number (accepted_by (answer_to h c) ++ h) ≡ Some f
   step_opened (open_call pid choice) =
       judge_seen (λ (a : Answer Place). opening_of f.number (accepted_by (open_event pid choice a) ++ h)) refused (open_rows h pid choice) (given (record { number = numbers_given h + 1; place = lowest_free h }))
-      ∙ judge_same (open_rows h pid choice) (opening_of f.number h) _ (ap (λ (b : Bool). cond b (there (new pid choice)) (opening_of f.number h)) (ne_eqb (numbers_given h + 1) f.number not_next))
+      ∙ judge_same (open_rows h pid choice) (opening_of f.number h) _ (ap (λ (b : Bool). cond b (Some (new pid choice)) (opening_of f.number h)) (ne_eqb (numbers_given h + 1) f.number not_next))
       ∙ came
   step_opened (close_call number) = go (is_given h number)
     where
-      go : (b : Bool) → opening_of f.number (accepted_by (close_event number (cond (not b) (refused 16) (given tt))) ++ h) ≡ there f
+      go : (b : Bool) → opening_of f.number (accepted_by (close_event number (cond (not b) (refused 16) (given tt))) ++ h) ≡ Some f
       go true = came
       go false = came
   step_opened (packet_call p lent) = packet_unseen (opening_of f.number) h p lent (λ r out. refl) ∙ came
@@ -258,8 +258,8 @@ thin_owed f h =
     ap (owed_of f) (thin_up f.pid f.number h)
     ∙ ap₂ (λ (m : ℕ) (ps : List Packet). (m, ps)) (thin_since f (up_to_close f.number h)) (thin_packets f.pid (up_to_close f.number h))
 
-module _ (store : List ℕ) (whole : length store ≡ 32768) (f : OpenedFilter) (before : List Call) (came : opening_of f.number (history ours store before) ≡ there f) where
-  pub run_opened : (later : List Call) → opening_of f.number (history ours store (later ++ before)) ≡ there f
+module _ (store : List ℕ) (whole : length store ≡ 32768) (f : OpenedFilter) (before : List Call) (came : opening_of f.number (history ours store before) ≡ Some f) where
+  pub run_opened : (later : List Call) → opening_of f.number (history ours store (later ++ before)) ≡ Some f
   run_opened [] = came
   run_opened (c ∷ later) =
       ap (λ (e : Event). opening_of f.number (accepted_by e ++ history ours store (later ++ before))) (event_is store whole (later ++ before) c)
@@ -289,7 +289,7 @@ module _ (store : List ℕ) (whole : length store ≡ 32768) (f : OpenedFilter) 
     history_less : history ours store less ≡ thin f.pid (history ours store (own ++ before))
     history_less = ap (history ours store) (sym less_is) ∙ history_thin store whole f.pid (own ++ before)
 
-    opened_less : opening_of f.number (history ours store less) ≡ there f
+    opened_less : opening_of f.number (history ours store less) ≡ Some f
     opened_less = ap (opening_of f.number) history_less ∙ thin_opening f.pid f.number (history ours store (own ++ before)) ∙ run_opened own
 
     same_owed : owed f (history ours store less) ≡ owed f (history ours store (later ++ before))

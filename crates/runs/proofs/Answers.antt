@@ -11,7 +11,8 @@ use borrow.Author.Tests.{eqb-true, eq-eqb, ne_eqb, lt-ltb, le-ltb, le-leb, lt-le
 use lib.Dec.{eqb, ltb, leb}
 use lib.ListN.{length, drop, get_or, length-map}
 use Rattle.ground.specs.Answer.{refused, given}
-use Rattle.ground.specs.Perhaps.{Perhaps, there, absent}
+use Rattle.std.specs.declared.option.Option.{Option}
+use Rattle.std.specs.Prelude.{Some, None}
 use Rattle.ground.specs.Refusal.{judge}
 use Rattle.ground.specs.Set.{set_of}
 use Rattle.ground.specs.Walk.{find}
@@ -57,11 +58,11 @@ above_next a n = go (dec_le a n)
     go (no m) = le-ltb a (n + 1) (omega arith) ∙ sym (lt-leb a n (omega arith))
 
 -- the open that gave a number has it
-own_number : (n : ℕ) (h : List AcceptedCall) (f : OpenedFilter) → opening_of n h ≡ there f → f.number ≡ n
+own_number : (n : ℕ) (h : List AcceptedCall) (f : OpenedFilter) → opening_of n h ≡ Some f → f.number ≡ n
 own_number n [] f e = let z : ◌≡◌ {A = ℕ} 0 1 = cc in absurd (omega arith)
 own_number n (opened g ∷ h) f e = go (eqb g.number n) refl e (own_number n h f)
   where
-    go : (b : Bool) → eqb g.number n ≡ b → cond b (there g) (opening_of n h) ≡ there f → (opening_of n h ≡ there f → f.number ≡ n) → f.number ≡ n
+    go : (b : Bool) → eqb g.number n ≡ b → cond b (Some g) (opening_of n h) ≡ Some f → (opening_of n h ≡ Some f → f.number ≡ n) → f.number ≡ n
     go true q s rest = let same : g ≡ f = cc in ap (λ (x : OpenedFilter). x.number) (sym same) ∙ eqb-true g.number n q
     go false q s rest = rest s
 own_number n (closed m ∷ h) f e = own_number n h f e
@@ -73,17 +74,17 @@ module _ (w : World) (h : List AcceptedCall) (l : Ledger w h) where
 
   -- ---- open
   -- a place is free exactly where nobody stands
-  free_seat : (j : ℕ) → is_free (filter_at w.state j) ≡ is_absent (get_or (standing h) j absent)
+  free_seat : (j : ℕ) → is_free (filter_at w.state j) ≡ is_absent (get_or (standing h) j None)
   free_seat j = go (eqb (filter_at s j).number 0) ∙ ap is_absent (sym (l.seats j))
     where
-      go : (b : Bool) → b ≡ is_absent (cond (not b) (there (opening_at w.state j)) absent)
+      go : (b : Bool) → b ≡ is_absent (cond (not b) (Some (opening_at w.state j)) None)
       go true = refl
       go false = refl
 
   lowest : free_place_of w.state.filters ≡ lowest_free h
   lowest =
       find_tests is_free s.filters
-      ∙ ap (find (λ (b : Bool). b)) (tests_same is_free is_absent s.filters (standing h) free_filter absent (l.places ∙ sym (standing_long h)) (λ j b. free_seat j))
+      ∙ ap (find (λ (b : Bool). b)) (tests_same is_free is_absent s.filters (standing h) free_filter None (l.places ∙ sym (standing_long h)) (λ j b. free_seat j))
       ∙ sym (find_tests is_absent (standing h))
 
   no_area : (pid : ℕ) → leb (length w.state.areas) (area_for pid w.state.areas) ≡ (not (more_opens pid h) && leb 8 (areas_taken h))
@@ -104,13 +105,13 @@ module _ (w : World) (h : List AcceptedCall) (l : Ledger w h) where
   not_given : (number : ℕ) → leb (length w.state.filters) (place_of number w.state.filters) ≡ not (is_given h number)
   not_given number = go (dec_lt (place_of number s.filters) (length s.filters))
     where
-      given_one : (f : OpenedFilter) → opening_of number h ≡ there f → is_closed number h ≡ false → is_given h number ≡ true
+      given_one : (f : OpenedFilter) → opening_of number h ≡ Some f → is_closed number h ≡ false → is_given h number ≡ true
       given_one f e k = rw (e, k)
 
-      none_given : (place_of number s.filters < length s.filters → ⊥) → (x : Perhaps OpenedFilter) → opening_of number h ≡ x → (b : Bool) → is_closed number h ≡ b → (not (is_absent x) && not b) ≡ false
-      none_given n absent e b k = refl
-      none_given n (there f) e true k = refl
-      none_given n (there f) e false k =
+      none_given : (place_of number s.filters < length s.filters → ⊥) → (x : Option OpenedFilter) → opening_of number h ≡ x → (b : Bool) → is_closed number h ≡ b → (not (is_absent x) && not b) ≡ false
+      none_given n None e b k = refl
+      none_given n (Some f) e true k = refl
+      none_given n (Some f) e false k =
           let is = own_number number h f e in
           let st = stood w h l f (record { opened = ap (λ (m : ℕ). opening_of m h) is ∙ e; kept = ap (λ (m : ℕ). is_closed m h) is ∙ k }) in
           let here = st.inside in
@@ -158,11 +159,11 @@ module _ (w : World) (h : List AcceptedCall) (l : Ledger w h) where
             ne_eqb (filter_at s j).area own n
             ∙ sym (ne_eqb (area_at s (filter_at s j).area).pid.0 pid (λ e. n (single w h l pid (filter_at s j).area own inside b (has_pid_lem pid (area_at s (filter_at s j).area) used e) (has_pid_lem pid (area_at s own) mine.0 mine.1))))
 
-        go : (c : Bool) → is_open (filter_at s j) ≡ c → ((c && eqb (filter_at s j).area own) && lets (choice_of (code_at s j)) table) ≡ is_on_for pid table (cond c (there (opening_at s j)) absent)
+        go : (c : Bool) → is_open (filter_at s j) ≡ c → ((c && eqb (filter_at s j).area own) && lets (choice_of (code_at s j)) table) ≡ is_on_for pid table (cond c (Some (opening_at s j)) None)
         go true i = ap (λ (b : Bool). b && lets (choice_of (code_at s j)) table) (same i (ℕ_discrete (filter_at s j).area own))
         go false i = refl
 
-    seat_for : (table j : ℕ) → j < length (places_of w.state) → is_for (area_of pid w.state.areas) table (get_or (places_of w.state) j free_place) ≡ is_on_for pid table (get_or (standing h) j absent)
+    seat_for : (table j : ℕ) → j < length (places_of w.state) → is_for (area_of pid w.state.areas) table (get_or (places_of w.state) j free_place) ≡ is_on_for pid table (get_or (standing h) j None)
     seat_for table j b =
         ap (is_for own table) (placed_at s.filters s.choices j (rw (placed_length s.filters s.choices) at b))
         ∙ stands_seat table j
@@ -172,7 +173,7 @@ module _ (w : World) (h : List AcceptedCall) (l : Ledger w h) where
     places_are table =
         set_tests (is_for own table) (places_of s)
         ∙ ap (set_of (λ (c : Bool). c))
-        (tests_same (is_for own table) (is_on_for pid table) (places_of s) (standing h) free_place absent (placed_length s.filters s.choices ∙ l.places ∙ sym (standing_long h)) (seat_for table))
+        (tests_same (is_for own table) (is_on_for pid table) (places_of s) (standing h) free_place None (placed_length s.filters s.choices ∙ l.places ∙ sym (standing_long h)) (seat_for table))
         ∙ sym (set_tests (is_on_for pid table) (standing h))
 
     -- what the area remembers

@@ -9,7 +9,7 @@ use borrow.Author.Tests.{ltb-true}
 use lib.ListN.{length, get_or, length-map}
 use Rattle.ground.specs.Answer.{refused, given}
 use Rattle.ground.specs.Set.{is_in}
-use Rattle.ground.specs.Perhaps.{absent}
+use Rattle.std.specs.Prelude.{None}
 use Rattle.ground.specs.Write.{put, Rest}
 use Rattle.ground.proofs.Set.{in_set}
 use Rattle.ground.proofs.Test.{and_false}
@@ -122,7 +122,7 @@ module _ (w : World) (h : List AcceptedCall) (l : Ledger w h) where
       each : (k : ℕ) → k < length ss → (place : ℕ) → is_in place (get_or (put lent.sets 0 (map set_of_lem ss)) k 0) ≡ is_open_for (pid_of p) (table_of (get_or ss k [])) place h
       each k b place =
           ap (is_in place) (put_item lent.sets (map set_of_lem ss) room k 0 (rw long b) ∙ map_at set_of_lem ss k [] 0 b)
-          ∙ in_set (is_on_for (pid_of p) (table_of (get_or ss k []))) (standing h) place absent refl
+          ∙ in_set (is_on_for (pid_of p) (table_of (get_or ss k []))) (standing h) place None refl
 
       rest : Rest (length ss) lent.sets (put lent.sets 0 (map set_of_lem ss))
       rest = rw long at (put_rest lent.sets (map set_of_lem ss) room)

@@ -5,7 +5,7 @@ use mathlib.Core.Bool.{Bool, true, false}
 use mathlib.Core.List.{List, [], ◌∷◌, ◌++◌}
 use Prim.Native.Nat.{ℕ}
 use lib.ListN.{take, replicate}
-use Rattle.ground.specs.Perhaps.{there, absent}
+use Rattle.std.specs.Prelude.{Some, None}
 use Rattle.ground.specs.Answer.{Answer, refused, given}
 use Rattle.ground.specs.Write.{put}
 use Rattle.gather.specs.Rule.{rule, walk, add, started, begun_in}
@@ -174,7 +174,7 @@ earlier = opened (record { number = 2; pid = 0; choice = All; place = 1 }) ∷ o
 abbrev reused : List AcceptedCall
 reused = opened (record { number = 3; pid = 5; choice = All; place = 1 }) ∷ closed 2 ∷ earlier
 
-pub who_stands : take 3 (standing reused) ≡ there (record { number = 1; pid = 0; choice = All; place = 0 }) ∷ there (record { number = 3; pid = 5; choice = All; place = 1 }) ∷ absent ∷ []
+pub who_stands : take 3 (standing reused) ≡ Some (record { number = 1; pid = 0; choice = All; place = 0 }) ∷ Some (record { number = 3; pid = 5; choice = All; place = 1 }) ∷ None ∷ []
 who_stands = refl
 
 pub whose_set : (places_after reused 0 78 ≡ 1) × (places_after reused 5 78 ≡ 2) × (places_after reused 7 78 ≡ 0)

@@ -12,7 +12,8 @@ use lib.ListN.{length, get_or, length-set, length-map, length-replicate}
 use Rattle.ground.specs.Walk.{total, count, Every}
 use Rattle.ground.proofs.Test.{neither, and_false}
 use Rattle.ground.proofs.Walk.{total_at, total_none, total_one, find_first}
-use Rattle.ground.specs.Perhaps.{Perhaps, there, absent}
+use Rattle.std.specs.declared.option.Option.{Option}
+use Rattle.std.specs.Prelude.{Some, None}
 use Rattle.gather.specs.Rule
 use Rattle.gather.specs.Rule.{Packet}
 use Rattle.gather.specs.Kind.{contradicting}
@@ -45,7 +46,7 @@ filter_at s j = get_or s.filters j free_filter
 
 -- a filter is open: an accepted open gave its number, and no close of it was accepted
 pub record IsOpen (f : OpenedFilter) (h : List AcceptedCall) : Type 0 where
-  pub opened : opening_of f.number h ≡ there f
+  pub opened : opening_of f.number h ≡ Some f
   pub kept : is_closed f.number h ≡ false
 
 -- what a filter was handed is what its choice lets through of what the rule completes up to its close
@@ -60,8 +61,8 @@ abbrev pub opening_at : State → ℕ → OpenedFilter
 opening_at s j = record { number = (filter_at s j).number; pid = (area_at s (filter_at s j).area).pid.0; choice = choice_of (code_at s j); place = j }
 
 -- who stands at a place, by the state
-abbrev pub seat_at : State → ℕ → Perhaps OpenedFilter
-seat_at s j = cond (is_open (filter_at s j)) (there (opening_at s j)) absent
+abbrev pub seat_at : State → ℕ → Option OpenedFilter
+seat_at s j = cond (is_open (filter_at s j)) (Some (opening_at s j)) None
 
 pub record Ledger (w : World) (h : List AcceptedCall) : Type 0 where
   pub whole : length w.store ≡ 32768
@@ -73,12 +74,12 @@ pub record Ledger (w : World) (h : List AcceptedCall) : Type 0 where
   pub balance : (pid : ℕ) → total (users_of pid) w.state.areas + closes pid h ≡ opens pid h
   -- the next number is one above all that were given, and numbers given and closed are below it
   pub numbers : w.state.next ≡ numbers_given h + 1
-  pub given : (number : ℕ) (f : OpenedFilter) → opening_of number h ≡ there f → (1 ≤ number) × (number < w.state.next)
+  pub given : (number : ℕ) (f : OpenedFilter) → opening_of number h ≡ Some f → (1 ≤ number) × (number < w.state.next)
   pub ended : (number : ℕ) → is_closed number h ≡ true → number < w.state.next
   -- an open filter stands at its place, and who stands at a place is open
   pub stands : (f : OpenedFilter) → IsOpen f h → (f.place < length w.state.filters) × ((filter_at w.state f.place).number ≡ f.number)
   pub known : (j : ℕ) → j < length w.state.filters → is_open (filter_at w.state j) ≡ true → IsOpen (opening_at w.state j) h
-  pub seats : (j : ℕ) → get_or (standing h) j absent ≡ seat_at w.state j
+  pub seats : (j : ℕ) → get_or (standing h) j None ≡ seat_at w.state j
   -- as many areas are used as were taken
   pub busy_areas : count is_used w.state.areas ≡ areas_taken h
   -- a used area remembers what the rule makes of the packets since it was taken
@@ -87,7 +88,7 @@ pub record Ledger (w : World) (h : List AcceptedCall) : Type 0 where
   -- every answer counts the sections in the output
   pub counts : Every IsCounted h
   -- a filter was handed what its choice lets through of what the rule completes
-  pub hands : (f : OpenedFilter) → opening_of f.number h ≡ there f → Handed f h
+  pub hands : (f : OpenedFilter) → opening_of f.number h ≡ Some f → Handed f h
 
 -- ---- up to a close
 -- before its close a number's history is the whole
@@ -130,7 +131,7 @@ pub record Stands (s : State) (f : OpenedFilter) : Type 0 where
   pub pid : (area_at s (filter_at s f.place).area).pid.0 ≡ f.pid
   pub choice : choice_of (code_at s f.place) ≡ f.choice
 
-pub same_there : {x y : OpenedFilter} → there x ≡ there y → x ≡ y
+pub same_there : {x y : OpenedFilter} → Some x ≡ Some y → x ≡ y
 same_there e = cc
 
 module _ (w : World) (h : List AcceptedCall) (l : Ledger w h) where
@@ -214,7 +215,7 @@ module _ (w : World) (h : List AcceptedCall) (l : Ledger w h) where
 
 -- there are 32 places
 pub standing_long : (h : List AcceptedCall) → length (standing h) ≡ 32
-standing_long [] = length-replicate {A = Perhaps OpenedFilter} 32 absent
-standing_long (opened f ∷ h) = length-set (standing h) f.place (there f) ∙ standing_long h
+standing_long [] = length-replicate {A = Option OpenedFilter} 32 None
+standing_long (opened f ∷ h) = length-set (standing h) f.place (Some f) ∙ standing_long h
 standing_long (closed n ∷ h) = length-map (standing h) _ ∙ standing_long h
 standing_long (packet p lent r out ∷ h) = standing_long h

@@ -12,7 +12,8 @@ use lib.ListN.{length, get_or, set, length-set, get_or-map}
 use lib.Seq.{get_or-set_same, get_or-set_other}
 use Rattle.ground.specs.Walk.{total, count}
 use Rattle.ground.proofs.Walk.{total-set, passes_inside}
-use Rattle.ground.specs.Perhaps.{Perhaps, there, absent}
+use Rattle.std.specs.declared.option.Option.{Option}
+use Rattle.std.specs.Prelude.{Some, None}
 use Rattle.gather.specs.Memory.{state_of}
 use Rattle.state.specs.State.{is_used, is_open, area_start, place_of, free_area, free_filter}
 use Rattle.close_call.specs.Close.{without_user, without_filter}
@@ -79,7 +80,7 @@ module _ (w : World) (h : List AcceptedCall) (l : Ledger w h) (number : ℕ) (c 
   inside = used_inside s.areas a used
 
   -- the open that gave the number
-  came : opening_of number h ≡ there (opening_at s p)
+  came : opening_of number h ≡ Some (opening_at s p)
   came = ap (λ (n : ℕ). opening_of n h) (sym (found_place number s.filters c.place).1) ∙ (l.known p c.place isopen).opened
 
   balance : (q : ℕ) → total (users_of q) (set s.areas a area) + (cond (is_on q (opening_of number h)) 1 0 + closes q h) ≡ opens q h
@@ -144,7 +145,7 @@ module _ (w : World) (h : List AcceptedCall) (l : Ledger w h) (number : ℕ) (c 
   other_number : (j : ℕ) → (j ≡ p → ⊥) → j < length s.filters → is_open (filter_at s j) ≡ true → number ≡ (filter_at s j).number → ⊥
   other_number j n b i e = n (same_place (sym (l.known j b i).opened ∙ ap (λ (k : ℕ). opening_of k h) (sym e) ∙ came))
     where
-      same_place : there (opening_at s j) ≡ there (opening_at s p) → j ≡ p
+      same_place : Some (opening_at s j) ≡ Some (opening_at s p) → j ≡ p
       same_place q = ap (λ (f : OpenedFilter). f.place) (same_there q)
 
   freed : get_or (set s.filters p free_filter) p free_filter ≡ free_filter
@@ -162,21 +163,21 @@ module _ (w : World) (h : List AcceptedCall) (l : Ledger w h) (number : ℕ) (c 
           rw (old_opening j n within open_there)
           (record { opened = was.opened; kept = rw (ne_eqb number (filter_at s j).number (other_number j n within open_there)) was.kept })
 
-  seats : (j : ℕ) → get_or (standing (closed number ∷ h)) j absent ≡ seat_at (without_filter s p) j
-  seats j = get_or-map (unless number) (standing h) j absent ∙ ap (unless number) (l.seats j) ∙ go (ℕ_discrete j p)
+  seats : (j : ℕ) → get_or (standing (closed number ∷ h)) j None ≡ seat_at (without_filter s p) j
+  seats j = get_or-map (unless number) (standing h) j None ∙ ap (unless number) (l.seats j) ∙ go (ℕ_discrete j p)
     where
       elsewhere : (j ≡ p → ⊥) → (b : Bool) → is_open (filter_at s j) ≡ b
-          → unless number (cond b (there (opening_at s j)) absent) ≡ cond b (there (opening_at (without_filter s p) j)) absent
+          → unless number (cond b (Some (opening_at s j)) None) ≡ cond b (Some (opening_at (without_filter s p) j)) None
       elsewhere n true i =
           let within = passes_inside is_open s.filters j free_filter refl i in
-          rw (ne_eqb (filter_at s j).number number (λ e. other_number j n within i (sym e))) (ap (λ (f : OpenedFilter). there f) (sym (old_opening j n within i)))
+          rw (ne_eqb (filter_at s j).number number (λ e. other_number j n within i (sym e))) (ap (λ (f : OpenedFilter). Some f) (sym (old_opening j n within i)))
       elsewhere n false i = refl
 
       go : Dec (j ≡ p) → unless number (seat_at s j) ≡ seat_at (without_filter s p) j
       go (yes e) = rw (e, isopen, freed, eq-eqb (filter_at s p).number number (found_place number s.filters c.place).1)
       go (no n) =
           elsewhere n (is_open (filter_at s j)) refl
-          ∙ ap (λ (g : Filter). cond (is_open g) (there (opening_at (without_filter s p) j)) absent) (sym (old_filter j n))
+          ∙ ap (λ (g : Filter). cond (is_open g) (Some (opening_at (without_filter s p) j)) None) (sym (old_filter j n))
 
   -- an area less is used exactly where the PID has none left
   busy_areas : count is_used (set s.areas a area) ≡ areas_taken (closed number ∷ h)
@@ -191,10 +192,10 @@ module _ (w : World) (h : List AcceptedCall) (l : Ledger w h) (number : ℕ) (c 
       -- one more close of its PID
       left_over : more_opens (area_at s a).pid.0 (closed number ∷ h) ≡ ltb (1 + closes (area_at s a).pid.0 h) (opens (area_at s a).pid.0 h)
       left_over =
-          ap (λ (x : Perhaps OpenedFilter). ltb (cond (is_on (area_at s a).pid.0 x) 1 0 + closes (area_at s a).pid.0 h) (opens (area_at s a).pid.0 h)) came
+          ap (λ (x : Option OpenedFilter). ltb (cond (is_on (area_at s a).pid.0 x) 1 0 + closes (area_at s a).pid.0 h) (opens (area_at s a).pid.0 h)) came
           ∙ ap (λ (b : Bool). ltb (cond b 1 0 + closes (area_at s a).pid.0 h) (opens (area_at s a).pid.0 h)) (eq-eqb (area_at s a).pid.0 (area_at s a).pid.0 refl)
 
-      go : Dec ((area_at s a).users ≡ 1) → count is_used (set s.areas a area) ≡ areas_taken h - cond (is_last (there (opening_at s p)) (closed number ∷ h)) 1 0
+      go : Dec ((area_at s a).users ≡ 1) → count is_used (set s.areas a area) ≡ areas_taken h - cond (is_last (Some (opening_at s p)) (closed number ∷ h)) 1 0
       go (yes e) =
           let even = users w h l a inside used in
           let none : more_opens (area_at s a).pid.0 (closed number ∷ h) ≡ false = left_over ∙ le-ltb (1 + closes (area_at s a).pid.0 h) (opens (area_at s a).pid.0 h) (omega arith) in
@@ -216,7 +217,7 @@ module _ (w : World) (h : List AcceptedCall) (l : Ledger w h) (number : ℕ) (c 
       rw (same.0, same.1) (l.remembers i (rw length-set at b) same.2)
 
   -- what a filter is handed ends with its close
-  hands : (f : OpenedFilter) → opening_of f.number h ≡ there f → Handed f (closed number ∷ h)
+  hands : (f : OpenedFilter) → opening_of f.number h ≡ Some f → Handed f (closed number ∷ h)
   hands f i = go (is_closed f.number h) refl (ℕ_discrete number f.number)
     where
       go : (b : Bool) → is_closed f.number h ≡ b → Dec (number ≡ f.number) → Handed f (closed number ∷ h)

@@ -12,7 +12,7 @@ use lib.ListN.{length, get_or, set, length-set}
 use lib.Seq.{get_or-set_same, get_or-set_other}
 use Rattle.ground.specs.Walk.{total, count}
 use Rattle.ground.proofs.Walk.{total-set, total_none, find_passes, passes_inside, all_at}
-use Rattle.ground.specs.Perhaps.{there, absent}
+use Rattle.std.specs.Prelude.{Some, None}
 use Rattle.gather.specs.Rule.{blank}
 use Rattle.gather.specs.Memory.{state_of}
 use Rattle.gather.specs.declared.Marks.{Marks}
@@ -101,7 +101,7 @@ module _ (w : World) (h : List AcceptedCall) (l : Ledger w h) (pid : ℕ) (choic
       let b = l.balance q in
       omega arith
 
-  given : (number : ℕ) (f : OpenedFilter) → opening_of number (opened fresh ∷ h) ≡ there f → (1 ≤ number) × (number < s.next + 1)
+  given : (number : ℕ) (f : OpenedFilter) → opening_of number (opened fresh ∷ h) ≡ Some f → (1 ≤ number) × (number < s.next + 1)
   given number f e = go (ℕ_discrete s.next number)
     where
       go : Dec (s.next ≡ number) → (1 ≤ number) × (number < s.next + 1)
@@ -117,7 +117,7 @@ module _ (w : World) (h : List AcceptedCall) (l : Ledger w h) (pid : ℕ) (choic
     where
       go : Dec (s.next ≡ f.number) → (f.place < length (set s.filters p filter)) × ((get_or (set s.filters p filter) f.place free_filter).number ≡ f.number)
       go (yes r) =
-          let e : there fresh ≡ there f = rw (eq-eqb s.next f.number r) at i.opened in
+          let e : Some fresh ≡ Some f = rw (eq-eqb s.next f.number r) at i.opened in
           let place : p ≡ f.place = cc in
           rw (← place)
           (rw length-set o.place, ap (λ (g : Filter). g.number) (get_or-set_same s.filters p filter free_filter o.place) ∙ r)
@@ -206,31 +206,31 @@ module _ (w : World) (h : List AcceptedCall) (l : Ledger w h) (pid : ℕ) (choic
           above : {m k : ℕ} → m ≡ k → k < m → ⊥
           above e b = omega arith
 
-  seats : (j : ℕ) → get_or (set (standing h) p (there fresh)) j absent ≡ seat_at (opened_state s pid choice) j
+  seats : (j : ℕ) → get_or (set (standing h) p (Some fresh)) j None ≡ seat_at (opened_state s pid choice) j
   seats j = go (ℕ_discrete j p)
     where
       open_now : is_open filter ≡ true
       open_now = let one = l.clauses.from in ap not (ne_eqb s.next 0 (λ e. omega arith))
 
-      elsewhere : (j ≡ p → ⊥) → (b : Bool) → is_open (filter_at s j) ≡ b → cond b (there (opening_at s j)) absent ≡ cond b (there (opening_at (opened_state s pid choice) j)) absent
-      elsewhere n true i = ap (λ (f : OpenedFilter). there f) (sym (old_opening j n (passes_inside is_open s.filters j free_filter refl i) i))
+      elsewhere : (j ≡ p → ⊥) → (b : Bool) → is_open (filter_at s j) ≡ b → cond b (Some (opening_at s j)) None ≡ cond b (Some (opening_at (opened_state s pid choice) j)) None
+      elsewhere n true i = ap (λ (f : OpenedFilter). Some f) (sym (old_opening j n (passes_inside is_open s.filters j free_filter refl i) i))
       elsewhere n false i = refl
 
-      go : Dec (j ≡ p) → get_or (set (standing h) p (there fresh)) j absent ≡ seat_at (opened_state s pid choice) j
+      go : Dec (j ≡ p) → get_or (set (standing h) p (Some fresh)) j None ≡ seat_at (opened_state s pid choice) j
       go (yes e) =
           let long = standing_long h in
           let many = l.places in
           let low = o.place in
-          ap (λ (k : ℕ). get_or (set (standing h) p (there fresh)) k absent) e
-          ∙ get_or-set_same (standing h) p (there fresh) absent (omega arith)
-          ∙ ap (λ (f : OpenedFilter). there f) (sym new_opening)
-          ∙ ap (λ (b : Bool). cond b (there (opening_at (opened_state s pid choice) p)) absent) (sym (ap is_open new_filter ∙ open_now))
+          ap (λ (k : ℕ). get_or (set (standing h) p (Some fresh)) k None) e
+          ∙ get_or-set_same (standing h) p (Some fresh) None (omega arith)
+          ∙ ap (λ (f : OpenedFilter). Some f) (sym new_opening)
+          ∙ ap (λ (b : Bool). cond b (Some (opening_at (opened_state s pid choice) p)) None) (sym (ap is_open new_filter ∙ open_now))
           ∙ ap (seat_at (opened_state s pid choice)) (sym e)
       go (no n) =
-          get_or-set_other (standing h) p j (there fresh) absent n
+          get_or-set_other (standing h) p j (Some fresh) None n
           ∙ l.seats j
           ∙ elsewhere n (is_open (filter_at s j)) refl
-          ∙ ap (λ (g : Filter). cond (is_open g) (there (opening_at (opened_state s pid choice) j)) absent) (sym (old_filter j n))
+          ∙ ap (λ (g : Filter). cond (is_open g) (Some (opening_at (opened_state s pid choice) j)) None) (sym (old_filter j n))
 
   -- an area more is used exactly where the PID had none
   busy_areas : count is_used (set s.areas a area) ≡ areas_taken h + cond (more_opens pid h) 0 1
@@ -282,7 +282,7 @@ module _ (w : World) (h : List AcceptedCall) (l : Ledger w h) (pid : ℕ) (choic
           subst (λ (x : Area). state_of x.marks w.store (area_start i) ≡ remembered (packets x.pid.0 (opened fresh ∷ h))) (sym same)
           (l.remembers i inside was ∙ ap remembered (sym (not_taken w h l (area_at s i).pid.0 fresh (busy w h l i (area_at s i).pid.0 inside was refl))))
 
-  hands : (f : OpenedFilter) → opening_of f.number (opened fresh ∷ h) ≡ there f → Handed f (opened fresh ∷ h)
+  hands : (f : OpenedFilter) → opening_of f.number (opened fresh ∷ h) ≡ Some f → Handed f (opened fresh ∷ h)
   hands f i = go (ℕ_discrete s.next f.number)
     where
       -- a filter that was there before

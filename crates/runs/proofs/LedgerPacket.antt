@@ -10,7 +10,7 @@ use borrow.Author.Tests.{eq-eqb, ne_eqb}
 use lib.Dec.{eqb}
 use lib.ListN.{length, get_or, set, length-set}
 use lib.Seq.{get_or-set_same, get_or-set_other}
-use Rattle.ground.specs.Perhaps.{there, absent}
+use Rattle.std.specs.Prelude.{Some, None}
 use Rattle.ground.specs.Set.{is_in}
 use Rattle.ground.specs.Walk.{total, count, keep}
 use Rattle.ground.specs.Write.{put}
@@ -95,8 +95,8 @@ module _ (w : World) (h : List AcceptedCall) (l : Ledger w h) (p : List ℕ) (le
   known : (j : ℕ) → j < length s.filters → is_open (filter_at s j) ≡ true → IsOpen (opening_at after.state j) (packet p lent said written ∷ h)
   known j b i = let was = l.known j b i in rw (same_opening j) (record { opened = was.opened; kept = was.kept })
 
-  seats : (j : ℕ) → get_or (standing h) j absent ≡ seat_at after.state j
-  seats j = l.seats j ∙ ap (λ (f : OpenedFilter). cond (is_open (filter_at s j)) (there f) absent) (sym (same_opening j))
+  seats : (j : ℕ) → get_or (standing h) j None ≡ seat_at after.state j
+  seats j = l.seats j ∙ ap (λ (f : OpenedFilter). cond (is_open (filter_at s j)) (Some f) None) (sym (same_opening j))
 
   busy_areas : count is_used (set s.areas own area) ≡ areas_taken h
   busy_areas =
@@ -185,7 +185,7 @@ module _ (w : World) (h : List AcceptedCall) (l : Ledger w h) (p : List ℕ) (le
           let none : handed_by f said written ≡ [] = handed_by_lem f ∙ keep_same (bit false (ne_eqb (filter_at s f.place).area own n)) result.sections ∙ keep_none result.sections in
           rw (i.kept, ne_eqb (pid_of p) f.pid other) (ap (λ (x : List (List ℕ)). handed f h ++ x) none ∙ append-nil (handed f h) ∙ before)
 
-  hands : (f : OpenedFilter) → opening_of f.number h ≡ there f → Handed f (packet p lent said written ∷ h)
+  hands : (f : OpenedFilter) → opening_of f.number h ≡ Some f → Handed f (packet p lent said written ∷ h)
   hands f i = go (is_closed f.number h) refl
     where
       go : (b : Bool) → is_closed f.number h ≡ b → Handed f (packet p lent said written ∷ h)

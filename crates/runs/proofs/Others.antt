@@ -8,7 +8,8 @@ use borrow.Author.Tests.{eqb-true}
 use lib.Dec.{eqb, ltb}
 use lib.ListN.{length, set}
 use Rattle.ground.specs.Answer.{refused, given}
-use Rattle.ground.specs.Perhaps.{Perhaps, there, absent}
+use Rattle.std.specs.declared.option.Option.{Option}
+use Rattle.std.specs.Prelude.{Some, None}
 use Rattle.ground.specs.Walk.{keep}
 use Rattle.gather.specs.Rule.{Packet}
 use Rattle.packet_call.specs.Packet.{pid_of, packet_from}
@@ -48,14 +49,14 @@ module _ (pid : ℕ) where
 
   pub thin_opening : (n : ℕ) (h : List AcceptedCall) → opening_of n (thin pid h) ≡ opening_of n h
   thin_opening n [] = refl
-  thin_opening n (opened f ∷ h) = ap (cond (eqb f.number n) (there f)) (thin_opening n h)
+  thin_opening n (opened f ∷ h) = ap (cond (eqb f.number n) (Some f)) (thin_opening n h)
   thin_opening n (closed number ∷ h) = thin_opening n h
   thin_opening n (packet p lent r out ∷ h) = let e = thin_opening n h in either (opening_of n) (eqb (pid_of p) pid) (packet p lent r out) h (opening_of n h) e e
 
   thin_closes : (q : ℕ) (h : List AcceptedCall) → closes q (thin pid h) ≡ closes q h
   thin_closes q [] = refl
   thin_closes q (opened f ∷ h) = thin_closes q h
-  thin_closes q (closed number ∷ h) = ap₂ (λ (x : Perhaps OpenedFilter) (n : ℕ). cond (is_on q x) 1 0 + n) (thin_opening number h) (thin_closes q h)
+  thin_closes q (closed number ∷ h) = ap₂ (λ (x : Option OpenedFilter) (n : ℕ). cond (is_on q x) 1 0 + n) (thin_opening number h) (thin_closes q h)
   thin_closes q (packet p lent r out ∷ h) = let e = thin_closes q h in either (closes q) (eqb (pid_of p) pid) (packet p lent r out) h (closes q h) e e
 
   thin_closed : (n : ℕ) (h : List AcceptedCall) → is_closed n (thin pid h) ≡ is_closed n h
@@ -69,20 +70,20 @@ module _ (pid : ℕ) where
 
   thin_standing : (h : List AcceptedCall) → standing (thin pid h) ≡ standing h
   thin_standing [] = refl
-  thin_standing (opened f ∷ h) = ap (λ (l : List (Perhaps OpenedFilter)). set l f.place (there f)) (thin_standing h)
+  thin_standing (opened f ∷ h) = ap (λ (l : List (Option OpenedFilter)). set l f.place (Some f)) (thin_standing h)
   thin_standing (closed number ∷ h) = ap (map (unless number)) (thin_standing h)
   thin_standing (packet p lent r out ∷ h) = let e = thin_standing h in either standing (eqb (pid_of p) pid) (packet p lent r out) h (standing h) e e
 
-  thin_last : (x : Perhaps OpenedFilter) (h : List AcceptedCall) → is_last x (thin pid h) ≡ is_last x h
-  thin_last absent h = refl
-  thin_last (there f) h = ap not (thin_area f.pid h)
+  thin_last : (x : Option OpenedFilter) (h : List AcceptedCall) → is_last x (thin pid h) ≡ is_last x h
+  thin_last None h = refl
+  thin_last (Some f) h = ap not (thin_area f.pid h)
 
   thin_taken : (h : List AcceptedCall) → areas_taken (thin pid h) ≡ areas_taken h
   thin_taken [] = refl
   thin_taken (opened f ∷ h) = ap₂ (λ (n : ℕ) (b : Bool). n + cond b 0 1) (thin_taken h) (thin_area f.pid h)
   thin_taken (closed number ∷ h) =
       ap₂ (λ (n : ℕ) (b : Bool). n - cond b 1 0) (thin_taken h)
-      (ap (λ (x : Perhaps OpenedFilter). is_last x (closed number ∷ thin pid h)) (thin_opening number h) ∙ thin_last (opening_of number h) (closed number ∷ h))
+      (ap (λ (x : Option OpenedFilter). is_last x (closed number ∷ thin pid h)) (thin_opening number h) ∙ thin_last (opening_of number h) (closed number ∷ h))
   thin_taken (packet p lent r out ∷ h) = let e = thin_taken h in either areas_taken (eqb (pid_of p) pid) (packet p lent r out) h (areas_taken h) e e
 
   -- of the PID's own packets none is missing

@@ -9,7 +9,7 @@ use borrow.Author.Tests.{ne_eqb}
 use lib.Dec.{eqb}
 use lib.ListN.{length, get_or, replicate, get_or-replicate}
 use Rattle.ground.specs.Walk.{Every}
-use Rattle.ground.specs.Perhaps.{there, absent}
+use Rattle.std.specs.Prelude.{Some, None}
 use Rattle.gather.specs.Memory.{held_of, contradicts_of}
 use Rattle.gather.specs.Kind.{contradicting}
 use Rattle.state.specs.State.{fresh, is_used, is_open, area_of, area_start, free_area, free_filter}
@@ -27,7 +27,7 @@ use Rattle.runs.proofs.LedgerOpen.{open_ledger}
 use Rattle.runs.proofs.LedgerClose.{close_ledger}
 use Rattle.runs.proofs.LedgerPacket.{packet_ledger}
 
-absent_there : {f : OpenedFilter} → absent ≡ there f → ⊥
+absent_there : {f : OpenedFilter} → None ≡ Some f → ⊥
 absent_there e = let z : ◌≡◌ {A = ℕ} 0 1 = cc in omega arith
 
 -- a list of one thing has it everywhere
@@ -52,7 +52,7 @@ fresh_ledger store e =
       stands = λ f i. absurd (absent_there i.opened);
       known = λ j b i. absurd (false≢true (ap is_open (sym (get_or-replicate 32 j free_filter free_filter b)) ∙ i));
       remembers = λ i b u. absurd (false≢true (ap is_used (sym (get_or-replicate 8 i free_area free_area b)) ∙ u));
-      seats = λ j. filled 32 j absent ∙ ap (λ (b : Bool). cond b (there (opening_at fresh j)) absent) (sym (ap is_open (filled 32 j free_filter)));
+      seats = λ j. filled 32 j None ∙ ap (λ (b : Bool). cond b (Some (opening_at fresh j)) None) (sym (ap is_open (filled 32 j free_filter)));
       busy_areas = refl;
       counts = tt;
       hands = λ f i. absurd (absent_there i);

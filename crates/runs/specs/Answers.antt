@@ -1,8 +1,8 @@
 -- Document 01, "What the proofs have to say" (the third demand): what each call has to answer, by what was accepted before it: in a run no answer hangs on anything else.
-use Rattle.std.specs.Prelude.{Bool, true, false, cond, not, ◌&&◌, ◌||◌, List, [], ◌∷◌, ◌++◌, map, ℕ, ◌+◌, ltb, leb, eqb, length, drop}
+use Rattle.std.specs.Prelude.{Bool, true, false, cond, not, ◌&&◌, ◌||◌, List, [], ◌∷◌, ◌++◌, map, ℕ, ◌+◌, ltb, leb, eqb, length, drop, Some, None}
 use Rattle.ground.specs.House.{area_count, place_count, last_number, least_output, least_list, last_filter_pid}
 use Rattle.ground.specs.Answer.{Answer, refused, given}
-use Rattle.ground.specs.Perhaps.{Perhaps, there, absent}
+use Rattle.std.specs.declared.option.Option.{Option}
 use Rattle.ground.specs.Refusal.{Row, judge, ◌when◌}
 use Rattle.ground.specs.Set.{set_of}
 use Rattle.ground.specs.Walk.{find}
@@ -20,9 +20,9 @@ use Rattle.runs.specs.History.{OpenedFilter, AcceptedCall, numbers_given, openin
 
 -- ---- open: "12, 17, 13, 14, 15"; the state of a run is sound, so 1 is never given
 -- nobody stands there
-abbrev pub is_absent : Perhaps OpenedFilter → Bool
-is_absent absent = true
-is_absent (there f) = false
+abbrev pub is_absent : Option OpenedFilter → Bool
+is_absent None = true
+is_absent (Some f) = false
 
 -- "the lowest free place", or 32
 abbrev pub lowest_free : List AcceptedCall → ℕ

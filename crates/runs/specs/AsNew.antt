@@ -1,8 +1,7 @@
 -- Request 14 of document 02, "After a jump, as good as new": how long a loss can be felt, over any run.
-use Rattle.std.specs.Prelude.{◌≡◌, Bool, true, false, cond, not, List, [], ◌∷◌, ◌++◌, map, ℕ, suc, ◌+◌, ◌≤◌, ◌<◌, eqb, length, get_or, drop}
+use Rattle.std.specs.Prelude.{◌≡◌, Bool, true, false, cond, not, List, [], ◌∷◌, ◌++◌, map, ℕ, suc, ◌+◌, ◌≤◌, ◌<◌, eqb, length, get_or, drop, Some}
 use Rattle.ground.specs.House.{area_count, store_bytes}
 use Rattle.ground.specs.Answer.{given}
-use Rattle.ground.specs.Perhaps.{there}
 use Rattle.ground.specs.Walk.{keep}
 use Rattle.packet.specs.Packet.{contents}
 use Rattle.packet.specs.Payload.{payload_of}
@@ -122,7 +121,7 @@ HandedAgain d =
     (store store₂ : List ℕ) → length store ≡ store_bytes → length store₂ ≡ store_bytes → (calls calls₂ : List Call) (f g : OpenedFilter) → f.choice ≡ g.choice
     → let h = history d store calls in
     let h₂ = history d store₂ calls₂ in
-    opening_of f.number h ≡ there f → opening_of g.number h₂ ≡ there g
+    opening_of f.number h ≡ Some f → opening_of g.number h₂ ≡ Some g
     → (earlier later : List Packet) (p : Packet) → (rule (remembered earlier) p).jump ≡ true → packets_for f h ≡ later ++ p ∷ earlier → packets_for g h₂ ≡ later ++ p ∷ []
     → (before : ℕ) → since_open g h₂ ≤ suc (length later) → since_open f h ≡ before + since_open g h₂
     → handed f h ≡ through f.choice (completed before (drop (since_open g h₂) (packets_for f h))) ++ handed g h₂

@@ -1,8 +1,7 @@
 -- Document 01, "What the proofs have to say": the third demand, a field for each of its sentences.
-use Rattle.std.specs.Prelude.{◌≡◌, Bool, true, false, cond, List, [], ◌∷◌, ◌++◌, reverse, ℕ, ◌+◌, ◌<◌, eqb, length, get_or}
+use Rattle.std.specs.Prelude.{◌≡◌, Bool, true, false, cond, List, [], ◌∷◌, ◌++◌, reverse, ℕ, ◌+◌, ◌<◌, eqb, length, get_or, Some, None}
 use Rattle.ground.specs.House.{area_count, store_bytes}
 use Rattle.ground.specs.Answer.{refused, given}
-use Rattle.ground.specs.Perhaps.{there, absent}
 use Rattle.ground.specs.Set.{is_in}
 use Rattle.ground.specs.Walk.{Every, keep}
 use Rattle.ground.specs.Write.{put, Rest}
@@ -61,7 +60,7 @@ IsCounted (packet p lent r after) = r.sections ≡ length (sections_of r after)
 
 -- a filter that is open on this PID and lets this table_id through stands at this place
 abbrev pub is_open_for : ℕ → ℕ → ℕ → List AcceptedCall → Bool
-is_open_for pid table place h = is_on_for pid table (get_or (standing h) place absent)
+is_open_for pid table place h = is_on_for pid table (get_or (standing h) place None)
 
 -- the demand of a driver and a run of calls, last first, from a fresh state and a store
 pub record DemandThree (d : Driver) (store : List ℕ) (calls : List Call) : Type 0 where
@@ -87,7 +86,7 @@ pub record DemandThree (d : Driver) (store : List ℕ) (calls : List Call) : Typ
   pub never : (number pid : ℕ) (choice : Choice) (a : Place) → is_closed number (history d store calls) ≡ true
       → event d (world_after d store calls) (open_call pid choice) ≡ open_event pid choice (given a) → a.number ≡ number → ⊥
   -- nor is any number given twice
-  pub once : (number pid : ℕ) (choice : Choice) (a : Place) (f : OpenedFilter) → opening_of number (history d store calls) ≡ there f
+  pub once : (number pid : ℕ) (choice : Choice) (a : Place) (f : OpenedFilter) → opening_of number (history d store calls) ≡ Some f
       → event d (world_after d store calls) (open_call pid choice) ≡ open_event pid choice (given a) → a.number ≡ number → ⊥
   -- whatever is called next is answered by what was accepted before it, and by nothing else
   pub answers : (c : Call) → event d (world_after d store calls) c ≡ answer_to (history d store calls) c
@@ -111,13 +110,13 @@ pub record DemandThree (d : Driver) (store : List ℕ) (calls : List Call) : Typ
   pub counts : Every IsCounted (history d store calls)
   -- "What an open filter is handed is exactly the sections" "whose table_id the filter lets through" (document 02, ticket 2) "that demand 2's rule completes, since its open, from the accepted packets of its PID since the area was taken";
   -- what a filter is handed ends with its close
-  pub hands : (f : OpenedFilter) → opening_of f.number (history d store calls) ≡ there f
+  pub hands : (f : OpenedFilter) → opening_of f.number (history d store calls) ≡ Some f
       → handed f (history d store calls)
       ≡ through f.choice (completed (since f (up_to_close f.number (history d store calls))) (packets f.pid (up_to_close f.number (history d store calls))))
   -- "No packet of another PID .. changes it": leaving out every packet of other PIDs, wherever it stands, leaves every other answer as it was
   pub others : (pid : ℕ) → log_of d store (keep (concerns pid) calls) ≡ keep (λ e. concerns pid (question_of e)) (log_of d store calls)
   -- ".. and no later open or close by others changes it": of the later calls only the packets of a filter's PID and its own close count
-  pub alone : (f : OpenedFilter) (later before : List Call) → calls ≡ later ++ before → opening_of f.number (history d store before) ≡ there f
+  pub alone : (f : OpenedFilter) (later before : List Call) → calls ≡ later ++ before → opening_of f.number (history d store before) ≡ Some f
       → handed f (history d store (keep (is_own f) later ++ keep (concerns f.pid) before)) ≡ handed f (history d store calls)
   -- a call that is refused, or a packet that is not wanted, leaves the state and every byte of the store as they were
   pub still : (c : Call) → is_accepted (event d (world_after d store calls) c) ≡ false → after d (world_after d store calls) c ≡ world_after d store calls

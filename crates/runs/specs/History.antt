@@ -1,7 +1,7 @@
 -- Document 01, "What the proofs have to say" (the third demand): what a log says, read from its questions and answers alone, never from a state.
-use Rattle.std.specs.Prelude.{Bool, true, false, cond, not, ◌&&◌, ◌||◌, List, [], ◌∷◌, ◌++◌, map, reverse, ℕ, suc, ◌+◌, ◌-◌, eqb, ltb, get_or, take, drop, set, replicate}
+use Rattle.std.specs.Prelude.{Bool, true, false, cond, not, ◌&&◌, ◌||◌, List, [], ◌∷◌, ◌++◌, map, reverse, ℕ, suc, ◌+◌, ◌-◌, eqb, ltb, get_or, take, drop, set, replicate, Some, None}
 use Rattle.ground.specs.Answer.{refused, given}
-use Rattle.ground.specs.Perhaps.{Perhaps, there, absent}
+use Rattle.std.specs.declared.option.Option.{Option}
 use Rattle.ground.specs.Set.{is_in}
 use Rattle.gather.specs.Rule.{State, Packet, blank}
 use Rattle.gather.specs.Run.{run}
@@ -73,21 +73,21 @@ opens pid (closed number ∷ h) = opens pid h
 opens pid (packet p lent r out ∷ h) = opens pid h
 
 -- the open that gave a number
-abbrev pub opening_of : ℕ → List AcceptedCall → Perhaps OpenedFilter
-opening_of number [] = absent
-opening_of number (opened f ∷ h) = cond (eqb f.number number) (there f) (opening_of number h)
+abbrev pub opening_of : ℕ → List AcceptedCall → Option OpenedFilter
+opening_of number [] = None
+opening_of number (opened f ∷ h) = cond (eqb f.number number) (Some f) (opening_of number h)
 opening_of number (closed n ∷ h) = opening_of number h
 opening_of number (packet p lent r out ∷ h) = opening_of number h
 
 -- the open that gave a number was of this PID
-abbrev pub is_on : ℕ → Perhaps OpenedFilter → Bool
-is_on pid absent = false
-is_on pid (there f) = eqb f.pid pid
+abbrev pub is_on : ℕ → Option OpenedFilter → Bool
+is_on pid None = false
+is_on pid (Some f) = eqb f.pid pid
 
 -- and its choice lets this table_id through
-abbrev pub is_on_for : ℕ → ℕ → Perhaps OpenedFilter → Bool
-is_on_for pid table absent = false
-is_on_for pid table (there f) = eqb f.pid pid && lets f.choice table
+abbrev pub is_on_for : ℕ → ℕ → Option OpenedFilter → Bool
+is_on_for pid table None = false
+is_on_for pid table (Some f) = eqb f.pid pid && lets f.choice table
 
 -- how many closes of a PID were accepted: a close names a number, and the PID is that of the open that gave it
 abbrev pub closes : ℕ → List AcceptedCall → ℕ
@@ -108,21 +108,21 @@ abbrev pub more_opens : ℕ → List AcceptedCall → Bool
 more_opens pid h = ltb (closes pid h) (opens pid h)
 
 -- an open, unless it gave this number
-abbrev pub unless : ℕ → Perhaps OpenedFilter → Perhaps OpenedFilter
-unless number absent = absent
-unless number (there f) = cond (eqb f.number number) absent (there f)
+abbrev pub unless : ℕ → Option OpenedFilter → Option OpenedFilter
+unless number None = None
+unless number (Some f) = cond (eqb f.number number) None (Some f)
 
 -- the 32 filter places: at each the open whose filter stands there, if one does
-abbrev pub standing : List AcceptedCall → List (Perhaps OpenedFilter)
-standing [] = replicate 32 absent
-standing (opened f ∷ h) = set (standing h) f.place (there f)
+abbrev pub standing : List AcceptedCall → List (Option OpenedFilter)
+standing [] = replicate 32 None
+standing (opened f ∷ h) = set (standing h) f.place (Some f)
 standing (closed number ∷ h) = map (unless number) (standing h)
 standing (packet p lent r out ∷ h) = standing h
 
 -- a close of a number leaves its PID without an area
-abbrev pub is_last : Perhaps OpenedFilter → List AcceptedCall → Bool
-is_last absent h = false
-is_last (there f) h = not (more_opens f.pid h)
+abbrev pub is_last : Option OpenedFilter → List AcceptedCall → Bool
+is_last None h = false
+is_last (Some f) h = not (more_opens f.pid h)
 
 -- how many areas are taken: an open takes one where its PID has none, and the last close on a PID frees it
 abbrev pub areas_taken : List AcceptedCall → ℕ

@@ -20,13 +20,13 @@ pub fn length_of(second: u8, third: u8) -> usize
 fn byte(bytes: &[u8], place: usize, behind: usize) -> u8
     ensures { result ≡ get_or (drop place bytes.now) behind 0 }
 {
-    if place < bytes.len() {
-        return byte_at(&bytes[place..], behind);
+    match bytes.get(place..) {
+        Some(rest) => byte_at(rest, behind),
+        None => 0,
     }
-    0
 }
 
-// The table_id of the section at a place.
+// The table_id of the section at a place. The place is what is asked for, here and below: past the end there are zeros.
 pub fn table_at(bytes: &[u8], place: usize) -> u8
     ensures { SaysTable bytes.now place result }
 {

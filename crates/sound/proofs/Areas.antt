@@ -1,7 +1,7 @@
 -- One pass over the areas finds out what three clauses of soundness ask: each record is sound by itself, no PID has two areas, and the users are those that were counted.
 -- Assumes nothing.
 use mathlib.Core.Path.{◌≡◌, refl, sym, ◌∙◌, ap}
-use mathlib.Core.Bool.{Bool, true, false, cond, not, ◌&&◌, ◌||◌, false≢true}
+use mathlib.Core.Bool.{Bool, true, false, cond, not, ◌&&◌}
 use mathlib.Core.List.{List, [], ◌∷◌}
 use Prim.Native.Nat.{ℕ, suc, ◌+◌, ◌≤◌, ◌<◌, zero-le}
 use native.Mathlib.Nat.{not-suc-le-zero}
@@ -15,7 +15,6 @@ use Rattle.ground.specs.Walk.{all, apart}
 use Rattle.ground.proofs.Test.{both_true, true_both, and_false}
 use Rattle.ground.proofs.Walk.{all_stops, all_goes, all_weaker, apart_front}
 use Rattle.ground.proofs.Kept.{Kept, kept_none, kept_one, kept_on, kept_new, kept_met}
-use Rattle.gather.proofs.RuleOnMemory.{none_held}
 use Rattle.state.specs.State.{is_used, free_area}
 use Rattle.state.specs.declared.Area.{Area}
 use Rattle.sound.specs.Sound.{is_zero_area, sound_area, same_pid}
@@ -65,33 +64,6 @@ free_agree (k ∷ counts) (a ∷ areas) n e =
     let free = both_true (is_free_area a) (all is_free_area areas) e in
     let same = eqb-true a.users 0 (both_true (eqb a.users 0) (is_zero_area a) free.0).0 ∙ sym (eqb-true k 0 none.0) in
     true_both (eqb a.users k) (agree counts areas) (eq-eqb a.users k same) (free_agree counts areas none.1 free.1)
-
--- the test of the code, which passes over it
-pub free_tested : (count : ℕ) (a : Area)
-    → (not (eqb count 0)
-    || not (eqb a.users 0)
-    || not (eqb a.pid.0 0)
-    || not (eqb a.marks.held_low 0)
-    || not (eqb a.marks.held_high 0)
-    || not (eqb a.marks.seen 0)
-    || not (eqb a.marks.counter 0)
-    || not (eqb a.marks.repeated 0))
-    ≡ false
-    → (is_none count ≡ true) × (is_free_area a ≡ true)
-free_tested count a e =
-    rw (← none_held a.marks.held_low a.marks.held_high)
-    (go (eqb count 0) (eqb a.users 0) (eqb a.pid.0 0) (eqb a.marks.held_low 0) (eqb a.marks.held_high 0) (eqb a.marks.seen 0) (eqb a.marks.counter 0) (eqb a.marks.repeated 0) e)
-  where
-    go : (n u p l h s c r : Bool) → (not n || not u || not p || not l || not h || not s || not c || not r) ≡ false → (n ≡ true) × ((u && (p && (l && h) && s && c && r)) ≡ true)
-    go true true true true true true true true e = (refl, refl)
-    go true true true true true true true false e = absurd (false≢true (sym e))
-    go true true true true true true false r e = absurd (false≢true (sym e))
-    go true true true true true false c r e = absurd (false≢true (sym e))
-    go true true true true false s c r e = absurd (false≢true (sym e))
-    go true true true false h s c r e = absurd (false≢true (sym e))
-    go true true false l h s c r e = absurd (false≢true (sym e))
-    go true false p l h s c r e = absurd (false≢true (sym e))
-    go false u p l h s c r e = absurd (false≢true (sym e))
 
 -- ---- the pass
 -- the three clauses together

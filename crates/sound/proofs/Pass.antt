@@ -1,7 +1,7 @@
 -- One pass over the filter places finds out what three clauses of soundness ask: the places are in range, the users are counted, and numbers differ, those of different classes without a comparison.
 -- Assumes nothing.
 use mathlib.Core.Path.{◌≡◌, refl, sym, ◌∙◌, ap, ap₂}
-use mathlib.Core.Bool.{Bool, true, false, cond, not, ◌&&◌, ◌||◌, false≢true}
+use mathlib.Core.Bool.{Bool, true, false, cond, not, ◌&&◌, false≢true}
 use mathlib.Core.List.{List, [], ◌∷◌, map}
 use Prim.Native.Nat.{ℕ, zero, suc, ◌+◌, ◌-◌, ◌%◌, ◌≤◌, ◌<◌, suc-le-suc, zero-le}
 use native.Mathlib.Nat.{mod-lt, zero-add, add-zero, add-suc, suc-add, not-suc-le-zero, le_of_suc-le-suc}
@@ -276,14 +276,6 @@ kept_same f g e some =
     true_both (is_open f) (eqb f.number g.number) (ap not (ne_eqb f.number 0 (λ z. some (sym e ∙ z)))) (eq-eqb f.number g.number e)
 
 -- ---- a place that is all zero
-pub zero_place : (f : Filter) → (not (eqb f.number 0) || not (eqb f.area 0)) ≡ false → is_zero_place f ≡ true
-zero_place f = go (eqb f.number 0) (eqb f.area 0)
-  where
-    go : (a b : Bool) → (not a || not b) ≡ false → (a && b) ≡ true
-    go true true e = refl
-    go true false e = sym e
-    go false b e = sym e
-
 zero_fits : (next : ℕ) (f : Filter) → is_zero_place f ≡ true → fits_place next f ≡ true
 zero_fits next f e = let p = both_true (eqb f.number 0) (eqb f.area 0) e in rw p.0 p.1
 
@@ -311,6 +303,14 @@ zero_behind filters i j zeros b = go (dec_lt j (length filters))
         let inside : j - i < length (drop i filters) = rw (length-drop i filters) (omega arith) in
         let zero = all_at is_zero_place (drop i filters) free_filter zeros (j - i) inside in
         ap (λ (f : Filter). f.number) (sym at) ∙ eqb-true (get_or (drop i filters) (j - i) free_filter).number 0 (both_true (eqb (get_or (drop i filters) (j - i) free_filter).number 0) (eqb (get_or (drop i filters) (j - i) free_filter).area 0) zero).0
+
+-- what all from an index on pass
+pub all_from {ℓ} : {A : Type ℓ} (p : A → Bool) (l : List A) (d : A) (end : ℕ) → ((k : ℕ) → k < length l → end ≤ k → p (get_or l k d) ≡ true) → all p (drop end l) ≡ true
+all_from p l d end each =
+    all_of p (drop end l) d
+    (λ j h.
+    let inside : j < length l - end = rw length-drop at h in
+    ap p (get_or-drop end l j d) ∙ each (end + j) (omega arith) (omega arith))
 
 -- ---- the pass over the places
 -- what is known once i places are passed

@@ -1,4 +1,5 @@
 pub mod State
 pub mod Choice
+pub mod Steps
 pub mod Promises
 pub mod Claims

@@ -1,6 +1,6 @@
 -- What each public call promises.
-use Rattle.std.specs.Prelude.{◌≡◌, List, ℕ}
-use Rattle.state.specs.State.{fresh, area_of, free_area_of, free_place_of, place_of}
+use Rattle.std.specs.Prelude.{◌≡◌, List, ℕ, Option, position}
+use Rattle.state.specs.State.{fresh, has_pid, has_no_users, is_free, has_number}
 use Rattle.state.specs.Choice.{placed, places_for}
 use Rattle.state.specs.declared.Area.{Area}
 use Rattle.state.specs.declared.Filter.{Filter}
@@ -11,20 +11,20 @@ abbrev pub MakesFresh : State → Type 0
 MakesFresh r = r ≡ fresh
 
 -- `area_of`
-abbrev pub FindsArea : List Area → ℕ → ℕ → Type 0
-FindsArea areas pid r = r ≡ area_of pid areas
+abbrev pub FindsArea : List Area → ℕ → Option ℕ → Type 0
+FindsArea areas pid r = r ≡ position (has_pid pid) areas
 
 -- `free_area`
-abbrev pub FindsFreeArea : List Area → ℕ → Type 0
-FindsFreeArea areas r = r ≡ free_area_of areas
+abbrev pub FindsFreeArea : List Area → Option ℕ → Type 0
+FindsFreeArea areas r = r ≡ position has_no_users areas
 
 -- `free_place`
-abbrev pub FindsFreePlace : List Filter → ℕ → Type 0
-FindsFreePlace filters r = r ≡ free_place_of filters
+abbrev pub FindsFreePlace : List Filter → Option ℕ → Type 0
+FindsFreePlace filters r = r ≡ position is_free filters
 
 -- `place_of`
-abbrev pub FindsPlace : List Filter → ℕ → ℕ → Type 0
-FindsPlace filters number r = r ≡ place_of number filters
+abbrev pub FindsPlace : List Filter → ℕ → Option ℕ → Type 0
+FindsPlace filters number r = r ≡ position (has_number number) filters
 
 -- `places_for`
 abbrev pub TellsPlaces : List Filter → List ℕ → ℕ → ℕ → ℕ → Type 0

@@ -45,14 +45,22 @@ has_pid pid a = is_used a && eqb a.pid.0 pid
 abbrev pub area_of : ℕ → List Area → ℕ
 area_of pid areas = find (has_pid pid) areas
 
+-- an area is free where it has no users
+abbrev pub has_no_users : Area → Bool
+has_no_users a = eqb a.users 0
+
 -- "the lowest free area", or the number of areas where all are taken
 abbrev pub free_area_of : List Area → ℕ
-free_area_of areas = find (λ a. eqb a.users 0) areas
+free_area_of areas = find has_no_users areas
 
 -- "the lowest free place", or the number of places where all are open
 abbrev pub free_place_of : List Filter → ℕ
 free_place_of filters = find is_free filters
 
+-- a filter is open and has this number
+abbrev pub has_number : ℕ → Filter → Bool
+has_number number f = is_open f && eqb f.number number
+
 -- the place of an open filter by its number, or the number of places where it is not open
 abbrev pub place_of : ℕ → List Filter → ℕ
-place_of number filters = find (λ f. is_open f && eqb f.number number) filters
+place_of number filters = find (has_number number) filters

@@ -1,8 +1,8 @@
-// What the driver's state holds, a fresh one, the lowest area or place that passes a test, or the number of them where none does, and the set of places that a section is for.
+// What the driver's state holds, a fresh one, the lowest area or place that passes a test, if one does, and the set of places that a section is for.
 #![tactic(auto)]
 
-ghost use Rattle.std.specs.Prelude.{◌≡◌, cond};
-ghost use Rattle.ground.specs.Set.{set_of};
+ghost use Rattle.std.specs.Prelude.{◌≡◌};
+ghost use Rattle.state.specs.Steps.{MayAsk, IsSet};
 ghost use Rattle.state.specs.State.{is_free};
 ghost use Rattle.state.specs.Choice.{is_for};
 ghost use Rattle.state.specs.Promises.{MakesFresh, FindsArea, FindsFreeArea, FindsFreePlace, FindsPlace, TellsPlaces};
@@ -26,11 +26,20 @@ pub const LAST_NUMBER: u32 = 65535;
 pub const LAST_FILTER_PID: u16 = 0x1FFE;
 
 // An area, used where it has users: its PID, how many filters stand on it, and what the rule of gathering remembers beside the held bytes.
-#[derive(Clone, Copy)]
+// That it is free is a number, 0 users, so that any bytes are a state; so are the marks of what was seen.
+#[derive(Clone, Copy, PartialEq, Eq)]
 pub struct Area {
     pub pid: Pid,
     pub users: u8,
     pub marks: Marks,
+}
+
+impl Area {
+    pub const FREE: Area = Area {
+        pid: Pid(0),
+        users: 0,
+        marks: Marks::NONE,
+    };
 }
 
 // A choice's number is at most this one, that of table_id 254.
@@ -44,10 +53,15 @@ pub enum Choice {
 }
 
 // A filter place, open where it has a number: the number, and the area that the filter stands on.
-#[derive(Clone, Copy)]
+// That it is free is a number, 0, so that any bytes are a state.
+#[derive(Clone, Copy, PartialEq, Eq)]
 pub struct Filter {
     pub number: u16,
     pub area: u8,
+}
+
+impl Filter {
+    pub const FREE: Filter = Filter { number: 0, area: 0 };
 }
 
 // The driver's state: 8 areas, 32 filter places, the choice of each, and the next number to give.
@@ -60,126 +74,99 @@ pub struct State {
     pub next: u32,
 }
 
+// What a call answers, and the state after it.
+#[derive(Clone, Copy)]
+pub struct After<A> {
+    pub state: State,
+    pub answer: A,
+}
+
 // A state with nothing open: the next number is 1.
 pub fn fresh() -> State
     ensures { MakesFresh result }
 {
-    let marks = Marks {
-        held_low: 0,
-        held_high: 0,
-        seen: 0,
-        counter: 0,
-        repeated: 0,
-    };
-    let area = Area {
-        pid: Pid(0),
-        users: 0,
-        marks,
-    };
-    let filter = Filter { number: 0, area: 0 };
     State {
-        areas: [area; AREAS],
-        filters: [filter; PLACES],
+        areas: [Area::FREE; AREAS],
+        filters: [Filter::FREE; PLACES],
         choices: [0; PLACES],
         next: 1,
     }
 }
 
-// The area of a PID.
-pub fn area_of(areas: [Area; AREAS], pid: Pid) -> usize
+// The area of a PID. A search takes each record as a whole, so that the compiler keeps it in one register.
+pub fn area_of(areas: [Area; AREAS], pid: Pid) -> Option<usize>
     ensures { FindsArea areas pid.0 result }
 {
-    let mut i: usize = 0;
-    while i < AREAS {
-        let area = areas[i];
-        let own = area.pid;
-        if (area.users != 0) & (own.0 == pid.0) {
-            return i;
-        }
-        i += 1;
-    }
-    AREAS
+    areas
+        .iter()
+        .position(|&area| (area.users != 0) & (area.pid == pid))
 }
 
 // The lowest free area.
-pub fn free_area(areas: [Area; AREAS]) -> usize
+pub fn free_area(areas: [Area; AREAS]) -> Option<usize>
     ensures { FindsFreeArea areas result }
 {
-    let mut i: usize = 0;
-    while i < AREAS {
-        let area = areas[i];
-        if area.users == 0 {
-            return i;
-        }
-        i += 1;
-    }
-    AREAS
-}
-
-// Whether a place is free, as a number.
-fn is_free(filter: Filter) -> u32
-    ensures { result ≡ cond (is_free filter) 1 0 }
-{
-    (filter.number == 0) as u32
-}
-
-// The set of free places, the first place the least significant bit.
-fn free_places(filters: [Filter; PLACES]) -> u32
-    ensures { result ≡ set_of is_free filters }
-{
-    let mut places: u32 = 0;
-    let mut i: usize = 0;
-    while i < PLACES {
-        let filter = filters[i];
-        places = places + (is_free(filter) << (i as u32));
-        i += 1;
-    }
-    places
-}
-
-// The lowest free place: below it every bit of the set of free places is 0, and where none is free all 32 are.
-pub fn free_place(filters: [Filter; PLACES]) -> usize
-    ensures { FindsFreePlace filters result }
-{
-    u32::trailing_zeros(free_places(filters)) as usize
+    areas.iter().position(|&area| area.users == 0)
 }
 
 // The place of an open filter by its number.
-pub fn place_of(filters: [Filter; PLACES], number: u16) -> usize
+pub fn place_of(filters: [Filter; PLACES], number: u16) -> Option<usize>
     ensures { FindsPlace filters number result }
 {
-    let mut i: usize = 0;
-    while i < PLACES {
-        let filter = filters[i];
-        if (filter.number != 0) & (filter.number == number) {
-            return i;
-        }
-        i += 1;
-    }
-    PLACES
+    filters
+        .iter()
+        .position(|&filter| (filter.number != 0) & (filter.number == number))
 }
 
-// Whether a section of this table_id on this area is for the filter at a place, as a number.
-fn is_for(filter: Filter, choice: u16, area: u8, table: u8) -> u32
-    ensures { result ≡ cond (is_for area table (record { filter = filter; choice = choice })) 1 0 }
+// The set of the places that pass a test, the first place the least significant bit. A test takes a filter's record as a whole, so that the compiler can test many at once.
+fn passing<F: Fn(usize) -> bool>(passes: F) -> u32
+    requires { MayAsk F.pre passes }
+    ensures { IsSet (F.post passes) result }
+{
+    let mut set: u32 = 0;
+    for place in 0..PLACES {
+        set += u32::from(passes(place)) << place;
+    }
+    set
+}
+
+// Whether a place is free.
+fn is_free(filter: Filter) -> bool
+    ensures { result ≡ is_free filter }
+{
+    filter.number == 0
+}
+
+// The lowest free place: below it every bit of the set of free places is 0, and where none is free all 32 are.
+pub fn free_place(filters: [Filter; PLACES]) -> Option<usize>
+    ensures { FindsFreePlace filters result }
+{
+    let zeros = passing(|place| {
+        let filter = filters[place];
+        is_free(filter)
+    })
+    .trailing_zeros();
+    if zeros < 32 {
+        Some(zeros as usize)
+    } else {
+        None
+    }
+}
+
+// Whether a section of this table_id on this area is for the filter at a place.
+fn is_for(filter: Filter, choice: u16, area: u8, table: u8) -> bool
+    ensures { result ≡ is_for area table (record { filter = filter; choice = choice }) }
 {
     let stands = (filter.number != 0) & (filter.area == area);
-    if stands & ((choice == 0) | (choice == table as u16 + 1)) {
-        return 1;
-    }
-    0
+    stands & ((choice == 0) | (choice == u16::from(table) + 1))
 }
 
 // The set of places that a section of this table_id on this area is for, the first place the least significant bit.
 pub fn places_for(filters: [Filter; PLACES], choices: [u16; PLACES], area: u8, table: u8) -> u32
     ensures { TellsPlaces filters choices area table result }
 {
-    let mut places: u32 = 0;
-    let mut i: usize = 0;
-    while i < PLACES {
-        let filter = filters[i];
-        places = places + (is_for(filter, choices[i], area, table) << (i as u32));
-        i += 1;
-    }
-    places
+    passing(|place| {
+        let filter = filters[place];
+        is_for(filter, choices[place], area, table)
+    })
 }

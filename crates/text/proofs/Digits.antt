@@ -10,7 +10,7 @@ use native.Mathlib.Nat.{le_refl, not-suc-le-zero, le_of_suc-le-suc, mod-eq_of_lt
 use lib.ListN.{length, length-append}
 use lib.Dec.{T, lit<, ltb, ltb→lt, nltb→le}
 use Rattle.io.specs.Digits.{last_digits, IsDigitCount, hex_digit_ascii}
-use Rattle.ground.proofs.Refusal.{yes<, no<}
+use Rattle.ground.proofs.Refused.{yes<, no<}
 use Rattle.text.specs.Text.{digits_of, decimal_of}
 use Rattle.text.specs.Claims.{value_from}
 

@@ -11,7 +11,7 @@ use lib.Dec.{ltb}
 use lib.ListN.{length, set, length-set}
 use lib.Seq.{take-suc-set}
 use borrow.Author.Tests.{lt-ltb}
-use Rattle.text.specs.Text.{Text, shown, with_byte, with_bytes}
+use Rattle.text.specs.Text.{Text, shown, in_bytes, with_byte, with_bytes}
 use Rattle.text.specs.Claims.{HasRoom, IsWritten}
 
 pub with_append : (t : Text) (a b : List ℕ) → with_bytes t (a ++ b) ≡ with_bytes (with_bytes t a) b
@@ -23,15 +23,15 @@ pub next : (s : Text) {t u : Text} (a b : List ℕ) → t ≡ with_bytes s a →
 next s a b e f = f ∙ ap (λ (x : Text). with_bytes x b) e ∙ sym (with_append s a b)
 
 -- a byte that has room
-room : (t : Text) (b : ℕ) → t.end < length t.bytes → with_byte t b ≡ record { bytes = set t.bytes t.end b; end = t.end + 1 }
-room t b h = ap (λ (is_room : Bool). cond is_room (record { bytes = set t.bytes t.end b; end = t.end + 1 }) t) (lt-ltb t.end (length t.bytes) h)
+room : (t : Text) (b : ℕ) → t.end < length t.bytes → with_byte t b ≡ in_bytes t (set t.bytes t.end b) (t.end + 1)
+room t b h = ap (λ (is_room : Bool). cond is_room (in_bytes t (set t.bytes t.end b) (t.end + 1)) t) (lt-ltb t.end (length t.bytes) h)
 
 -- the lent bytes stay as many
 pub same_size : (t : Text) (bs : List ℕ) → length (with_bytes t bs).bytes ≡ length t.bytes
 same_size t [] = refl
 same_size t (b ∷ bs) = same_size (with_byte t b) bs ∙ one (ltb t.end (length t.bytes))
   where
-    one : (is_room : Bool) → length (cond is_room (record { bytes = set t.bytes t.end b; end = t.end + 1 }) t).bytes ≡ length t.bytes
+    one : (is_room : Bool) → length (cond is_room (in_bytes t (set t.bytes t.end b) (t.end + 1)) t).bytes ≡ length t.bytes
     one true = length-set t.bytes t.end b
     one false = refl
 
@@ -39,7 +39,7 @@ pub is_written : (t : Text) (bs : List ℕ) → HasRoom t (length bs) → IsWrit
 is_written t [] h = record { text = sym (append-nil (shown t)); end = sym (add-zero t.end) }
 is_written t (b ∷ bs) h =
     let inside : t.end < length t.bytes = omega arith in
-    let longer : Text = record { bytes = set t.bytes t.end b; end = t.end + 1 } in
+    let longer : Text = in_bytes t (set t.bytes t.end b) (t.end + 1) in
     let more : HasRoom longer (length bs) = rw (length-set t.bytes t.end b) (omega arith) in
     let rest = is_written longer bs more in
     let one : shown longer ≡ shown t ++ (b ∷ []) = rw (add-one t.end) (take-suc-set t.bytes t.end b inside) in

@@ -3,7 +3,7 @@ use Rattle.std.specs.Prelude.{◌≡◌, List, [], ◌∷◌, ◌++◌, ℕ, ◌
 use Rattle.ground.specs.Lent.{Lent}
 use Rattle.ground.specs.Outcome.{Determined}
 use Rattle.text.specs.Text.{Text, shown, with_bytes, decimal_of}
-use Rattle.text.specs.Promises.{WritesByte, WritesWord, WritesDecimal, LendsFirst}
+use Rattle.text.specs.Promises.{BeginsText, ClearsText, WritesByte, WritesWord, WritesDecimal, LendsText, LendsFirst}
 
 -- there is room for so many bytes more
 abbrev pub HasRoom : Text → ℕ → Type 0
@@ -21,9 +21,12 @@ value_from before (d ∷ ds) = value_from (before * 10 + (d - 48)) ds
 
 pub record Claims : Type 0 where
   -- any two outcomes that a promise admits are equal
+  pub begins_text : (loan : ℕ) (bytes : List ℕ) → Determined (BeginsText loan bytes)
+  pub clears_text : (t : Text) → Determined (ClearsText t)
   pub writes_byte : (t : Text) (b : ℕ) → Determined (WritesByte t b)
   pub writes_word : (t : Text) (letters : List ℕ) → Determined (WritesWord t letters)
   pub writes_decimal : (t : Text) (n : ℕ) → Determined (WritesDecimal t n)
+  pub lends_text : (t : Text) → Determined (LendsText t)
   pub lends_first : (l : Lent) (size : ℕ) → Determined (LendsFirst l size)
   -- no byte is left out where there is room
   pub is_written : (t : Text) (bs : List ℕ) → HasRoom t (length bs) → IsWritten t bs (with_bytes t bs)

@@ -1,14 +1,24 @@
 -- Text that a program prints, as it grows.
 use Rattle.std.specs.Prelude.{cond, List, [], ◌∷◌, ◌++◌, ℕ, zero, suc, ◌+◌, ◌/◌, ◌%◌, ltb, length, take, set}
+use Rattle.text.specs.declared.Text as code
 
--- lent bytes, of which the first are text: where the text ends
+-- lent bytes, of which the first are text: the loan's name, the bytes, and where the text ends
 pub record Text : Type 0 where
+  pub loan : ℕ
   pub bytes : List ℕ
   pub end : ℕ
 
--- the text in these bytes up to this end
-abbrev pub up_to : List ℕ → ℕ → Text
-up_to bytes end = record { bytes = bytes; end = end }
+-- what the code holds
+abbrev pub told_text : code.Text → Text
+told_text t = record { loan = t.bytes.ghost_name; bytes = t.bytes.now; end = t.end }
+
+-- this text in these bytes, up to this end
+abbrev pub in_bytes : Text → List ℕ → ℕ → Text
+in_bytes t bytes end = record { loan = t.loan; bytes = bytes; end = end }
+
+-- the same bytes, and no text
+abbrev pub emptied : Text → Text
+emptied t = in_bytes t t.bytes 0
 
 -- the text itself
 abbrev pub shown : Text → List ℕ
@@ -16,7 +26,7 @@ shown t = take t.end t.bytes
 
 -- one byte more; where it has no place, all is left as it is
 abbrev pub with_byte : Text → ℕ → Text
-with_byte t b = cond (ltb t.end (length t.bytes)) (record { bytes = set t.bytes t.end b; end = t.end + 1 }) t
+with_byte t b = cond (ltb t.end (length t.bytes)) (in_bytes t (set t.bytes t.end b) (t.end + 1)) t
 
 -- one byte after the other
 abbrev pub with_bytes : Text → List ℕ → Text

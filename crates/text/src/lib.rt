@@ -2,48 +2,70 @@
 #![tactic(auto)]
 
 ghost use Rattle.ground.specs.Lent.{lent};
-ghost use Rattle.text.specs.Text.{up_to};
-ghost use Rattle.text.specs.Promises.{WritesByte, WritesWord, WritesDecimal, LendsFirst};
+ghost use Rattle.text.specs.Text.{told_text};
+ghost use Rattle.text.specs.Promises.{BeginsText, ClearsText, WritesByte, WritesWord, WritesDecimal, LendsText, LendsFirst};
 
-// One byte more, and where the text ends then.
-pub fn byte(text: &mut [u8], at: usize, b: u8) -> usize
-    ensures { WritesByte (up_to text.old at) b (up_to text.new result) }
-{
-    if at < text.len() {
-        text[at] = b;
-        return at + 1;
-    }
-    at
+// Lent bytes, of which the first are text: where the text ends.
+#[derive(Drop)]
+pub struct Text<'a> {
+    pub bytes: &'a mut [u8],
+    pub end: usize,
 }
 
-// A word.
-pub fn word(text: &mut [u8], at: usize, letters: &[u8]) -> usize
-    ensures { WritesWord (up_to text.old at) letters.now (up_to text.new result) }
-{
-    let mut end = at;
-    let mut i: usize = 0;
-    while i < letters.len() {
-        end = byte(text, end, letters[i]);
-        i += 1;
+impl<'a> Text<'a> {
+    // No text yet.
+    pub fn new(bytes: &'a mut [u8]) -> Text<'a>
+        ensures { BeginsText bytes.entry.ghost_name bytes.old (told_text result) }
+    {
+        Text { bytes, end: 0 }
     }
-    end
+
+    // No text again.
+    pub fn clear(&mut self)
+        ensures { ClearsText (told_text self.old) (told_text self.new) }
+    {
+        self.end = 0;
+    }
+
+    // One byte more.
+    pub fn byte(&mut self, b: u8)
+        ensures { WritesByte (told_text self.old) b (told_text self.new) }
+    {
+        if self.end < self.bytes.len() {
+            self.bytes[self.end] = b;
+            self.end += 1;
+        }
+    }
+
+    // A word.
+    pub fn word(&mut self, letters: &[u8])
+        ensures { WritesWord (told_text self.old) letters.now (told_text self.new) }
+    {
+        for b in letters {
+            self.byte(*b);
+        }
+    }
+
+    // A number in decimal digits. There is no `Display`: each byte of a line is promised.
+    pub fn decimal(&mut self, n: u64)
+        ensures { WritesDecimal (told_text self.old) n (told_text self.new) }
+    {
+        let mut digits = [0u8; 20];
+        let size = io::decimal(n, &mut digits);
+        self.word(&digits[..size]);
+    }
+
+    // The text itself.
+    pub fn written(&self) -> &[u8]
+        ensures { LendsText (told_text self.now) result.now }
+    {
+        first(self.bytes, self.end)
+    }
 }
 
-// A number in decimal digits.
-pub fn decimal(text: &mut [u8], at: usize, n: u64) -> usize
-    ensures { WritesDecimal (up_to text.old at) n (up_to text.new result) }
+// The first of some bytes: as many as there are at most.
+pub fn first(bytes: &[u8], size: usize) -> &[u8]
+    ensures { LendsFirst (lent bytes.entry) size (lent result) }
 {
-    let mut digits = [0u8; 20];
-    let size = io::decimal(n, &mut digits);
-    word(text, at, &digits[..size])
-}
-
-// The text itself: as many of the bytes as there are at most.
-pub fn first(text: &[u8], size: usize) -> &[u8]
-    ensures { LendsFirst (lent text.entry) size (lent result) }
-{
-    if size < text.len() {
-        return &text[..size];
-    }
-    text
+    &bytes[..size.min(bytes.len())]
 }

@@ -12,10 +12,10 @@ pub loop-i-preserved : goal.loop-i-preserved
 loop-i-preserved c =
     let ys = c.args.records.now in
     let i = c.loop-i.i in
-    (omega arith, rw add-one (ap (λ (x : Judging). walked x (suc i) (drop (suc i) ys)) c.step-j.ensures ∙ turned ys i c.loop-i.j (omega arith) ∙ c.loop-i.invariant.1))
+    rw add-one (ap (λ (x : Judging). walked x (suc i) (drop (suc i) ys)) c.step-j.ensures ∙ turned ys i c.loop-i.j (omega arith) ∙ c.loop-i.invariant)
 
 pub returns : goal.returns
 returns c =
     let ys = c.args.records.now in
-    ap told_verdict (c.finish.ensures ∙ ap (λ (x : Judging). x.verdict) (sym (ended ys c.loop-i.i c.loop-i.j (omega arith)) ∙ c.loop-i.invariant.1))
+    ap told_verdict (ap (λ (x : Judging). x.verdict) (sym (ended ys c.loop-i.i c.loop-i.j (omega arith)) ∙ c.loop-i.invariant))
     ∙ agrees c.args.pid.0 ys

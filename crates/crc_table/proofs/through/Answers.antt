@@ -1,24 +1,25 @@
 -- `crc_table::through` meets its contract: it is the sum over all four bytes.
 -- Assumes nothing.
-use mathlib.Core.Path.{◌≡◌, ap, ap₂, ◌∙◌}
+use mathlib.Core.Path.{◌≡◌, sym, ap, ◌∙◌}
+use mathlib.Core.List.{List, [], ◌∷◌}
 use Prim.Native.Nat.{ℕ, ◌/◌, ◌%◌, ◌^◌}
+use native.Mathlib.Nat.{div-one}
 use native.Mathlib.Omega.{arith}
 use lib.Bits.{bit_xor}
+use lib.ListN.{get_or}
 use Rattle.crc_table.specs.Table.{shifts}
-use Rattle.crc_table.specs.Steps.{listed}
-use Rattle.crc_table.proofs.Rule.{sliced_is}
+use Rattle.crc_table.proofs.Rule.{listed, sliced_is}
 use Rattle.crc_table.proofs.through.Goals as goal
+
+-- what the tables have for a register's bytes, the lowest first
+abbrev of_bytes : List ℕ → ℕ
+of_bytes l = bit_xor (bit_xor (bit_xor (listed 0 (get_or l 0 0)) (listed 1 (get_or l 1 0))) (listed 2 (get_or l 2 0))) (listed 3 (get_or l 3 0))
 
 pub returns : goal.returns
 returns c =
     let v = c.args.register in
-    let low : v % 256 ≡ v / 2 ^ 0 % 256 = omega arith in
-    let top : v / 2 ^ 24 ≡ v / 2 ^ 24 % 256 = omega arith in
     let all : v % 2 ^ 32 ≡ v = omega arith in
-    ap₂ bit_xor
-    (ap₂ bit_xor
-    (ap₂ bit_xor (c.slice_0.ensures ∙ ap (λ (x : ℕ). listed 0 (bit_xor x 128)) low) c.slice_1.ensures)
-    c.slice_2.ensures)
-    (c.slice_3.ensures ∙ ap (λ (x : ℕ). listed 3 (bit_xor x 128)) top)
+    ap of_bytes c.to_le_bytes.ensures
+    ∙ ap (λ (x : ℕ). of_bytes (x % 256 ∷ v / 256 % 256 ∷ v / 65536 % 256 ∷ v / 16777216 % 256 ∷ [])) (sym (div-one v))
     ∙ sliced_is 4 v (omega arith)
     ∙ ap (shifts 32) all

@@ -2,14 +2,18 @@
 -- Assumes nothing.
 use mathlib.Core.Bool.{Bool, false, true, cond, ◌&&◌, ◌||◌}
 use mathlib.Core.List.{List}
-use Prim.Native.Nat.{ℕ}
+use Prim.Native.Nat.{ℕ, ◌+◌, ◌-◌, ◌≤◌}
+use lib.ListN.{take, drop}
+use lib.Seq.{take-take}
+use borrow.Rule.Slice.PartMut.{put_mid}
+use Rattle.gather.proofs.OnMemory.{carried_area}
 use mathlib.Core.Path.{◌≡◌, sym, ◌∙◌, ap}
 use Rattle.ground.specs.Answer.{given}
 use native.Mathlib.Omega.{arith}
 use lib.Dec.{eqb}
 use Rattle.gather.specs.Steps.{Carried}
 use Rattle.gather.specs.Memory.{last_of, stretch, state_of, told_gathered, leaves, on_memory}
-use Rattle.gather.specs.Rule.{Packet, Outcome, unfinished_of, is_same, repeats}
+use Rattle.gather.specs.Rule.{Packet, Outcome, unfinished_of, yield, begun_by, is_same, repeats}
 use Rattle.gather.specs.declared.Marks.{Marks}
 use Rattle.gather.specs.declared.Gathered.{Gathered}
 use Rattle.gather.proofs.RuleOnMemory.{repeats_is, jumps_is, unchanged_on_memory, dropped_on_memory, rule_empty, rule_repeat, taken_whole, lost_le, yield_two, yield_short}
@@ -43,14 +47,16 @@ returns-then-same-marks c =
 pub overflow_add-given_up : goal.overflow_add-given_up
 overflow_add-given_up c =
     let a = c.args in
-    let two = yield_two (stretch c.kept.result a.store.now a.base) a.start a.payload.now in
+    let held = take c.kept.result (take (a.base + 4096 - a.base) (drop a.base a.store.now)) in
+    let two = yield_two held a.start a.payload.now in
     let one = lost_le (c.is_same-same.result || c.skips-skip.result) c.held_of-held.result in
     omega (arith, ap (λ (r : Carried). r.sizes.given_up) c.gathered-sizes.ensures, c.lost-lost.ensures, two, one)
 
-pub overflow_cast-held_high : goal.overflow_cast-held_high
-overflow_cast-held_high c =
+pub overflow_cast-next-2 : goal.overflow_cast-next-2
+overflow_cast-next-2 c =
     let a = c.args in
-    let short = yield_short (stretch c.kept.result a.store.now a.base) a.start a.payload.now c.requires.room.short in
+    let held = take c.kept.result (take (a.base + 4096 - a.base) (drop a.base a.store.now)) in
+    let short = yield_short held a.start a.payload.now c.requires.room.short in
     omega (arith, ap (λ (r : Carried). r.sizes.held) c.gathered-sizes.ensures, short)
 
 pub returns : goal.returns
@@ -62,10 +68,17 @@ returns c =
     let jump = same.result || skip.result in
     let jump_is = jumps_is (last_of a.marks) a.counter same.result skip.result same.ensures skip.ensures is_new in
     let held_is = c.held_of-held.ensures in
-    let store = c.gathered-sizes.new.store in
+    let n = a.base + 4096 - a.base in
+    let z = c.gathered-sizes.result in
+    let y = yield (stretch c.kept.result a.store.now a.base) a.start a.payload.now in
+    let short = yield_short (stretch c.kept.result a.store.now a.base) a.start a.payload.now c.requires.room.short in
+    let within : c.kept.result ≤ n = omega (arith, c.kept.ensures.1, c.requires.room.bound, held_is) in
+    let carry = rw (take-take c.kept.result n (drop a.base a.store.now) within) at c.gathered-sizes.ensures in
+    let store = put_mid a.base n a.store.now c.gathered-sizes.new.area in
     let out = c.gathered-sizes.new.out in
     ap (λ (g : Gathered). leaves (given (told_gathered g)) store out) c.taken.ensures
     ∙ taken_whole a.marks a.counter a.start a.payload.now a.store.now a.base a.out.now c.requires.room c.if-payload-eq0.false is_new
     jump c.kept.result c.lost-lost.result jump_is
     (c.kept.ensures.0 ∙ ap (λ (n : ℕ). cond jump 0 n) held_is) (c.lost-lost.ensures ∙ ap (λ (n : ℕ). cond jump (unfinished_of n) 0) held_is)
-    c.gathered-sizes.result store out c.gathered-sizes.ensures
+    z store out
+    (carried_area a.store.now a.base n a.out.now (begun_by a.start a.payload.now) y (omega (arith, c.requires.room.area)) (omega (arith, short)) z c.gathered-sizes.new.area out carry)

@@ -3,7 +3,7 @@
 use native.Mathlib.Omega.{arith}
 use mathlib.Core.Bool.{Bool, true, false, not}
 use mathlib.Core.Path.{◌≡◌, sym, ◌∙◌, ap}
-use Rattle.ground.proofs.Refusal.{tests, yes, no}
+use Rattle.ground.proofs.Refused.{tests, yes, no}
 use Rattle.gather.specs.Memory.{sound_marks, gather_of}
 use Rattle.gather.specs.declared.Marks.{Marks}
 use Rattle.gather.proofs.gather.Goals as goal

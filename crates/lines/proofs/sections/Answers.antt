@@ -1,21 +1,19 @@
--- One section a progress: what is written and what is left of the output make up all the lines.
+-- One section a turn: what is written and what is left of the output make up all the lines.
 -- Assumes nothing.
-use mathlib.Core.Path.{◌∙◌}
+use mathlib.Core.Path.{◌∙◌, ◌≡◌}
 use native.Mathlib.Omega.{arith}
-use borrow.Author.Rules.{rules}
-use Rattle.text.specs.Text.{up_to}
+use Prim.Native.Nat.{suc, ◌-◌, ◌+◌}
+use Rattle.text.specs.Text.{told_text}
 use Rattle.lines.proofs.SectionLines.{progress}
 use Rattle.lines.proofs.sections.Goals as goal
 
-pub loop-left-preserved : goal.loop-left-preserved
-loop-left-preserved c =
+pub loop-preserved : goal.loop-preserved
+loop-preserved c =
     let a = c.args in
-    let l = c.loop-left in
+    let l = c.loop in
     let size = c.size_at-size in
     let table = c.table_at-table in
-    let written = c.section-end in (
-      search rules,
-      progress (up_to l.text l.end) (up_to written.new.text written.result) a.index a.pid l.left l.place a.out.now
-          table.result size.result c.further-place.result (omega arith) table.ensures size.ensures c.further-place.ensures written.ensures
-          ∙ l.invariant.1,
-    )
+    let one_less : a.count - l.counter ≡ suc (a.count - (l.counter + 1)) = omega arith in
+    progress (told_text l.text) (told_text c.section.new.text) a.subject.index a.subject.pid (a.count - l.counter) (a.count - (l.counter + 1)) l.place a.out.now
+    table.result size.result c.further-place.result one_less table.ensures size.ensures c.further-place.ensures c.section.ensures
+    ∙ l.invariant

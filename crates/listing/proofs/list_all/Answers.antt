@@ -1,31 +1,27 @@
--- What was listed so far, and one turn more; the count of turns falls, and no buffer changes its length.
+-- What was listed so far, and one turn more; no buffer changes its length.
 -- Assumes nothing.
-use mathlib.Core.Path.{refl, sym, subst}
+use mathlib.Core.Path.{refl}
 use mathlib.Core.Bool.{true}
-use Prim.Native.Nat.{◌<◌}
 use native.Mathlib.Omega.{arith}
-use lib.Dec.{ltb}
-use borrow.Author.Rules.{rules}
-use Rattle.ground.proofs.Test.{both_true}
-use Rattle.pieces.specs.Input.{Between}
-use Rattle.pieces.specs.Piece.{beginning}
+use Rattle.pieces.specs.Piece.{told_held}
 use Rattle.pieces.specs.Turns.{between_of}
-use Rattle.listing.specs.Listing.{ListsInput}
-use Rattle.pieces.specs.declared.reads.Step.{Step}
 use Rattle.listing.proofs.Turns.{lists_none, lists_on}
 use Rattle.listing.proofs.list_all.Goals as goal
 
-pub loop-turns-init : goal.loop-turns-init
-loop-turns-init c =
+pub loop-init : goal.loop-init
+loop-init c =
     let a = c.args in
-    let b : Step → Between = λ (s : Step). between_of s a.piece.now a.store.now a.out.now a.sets.now in
-    let begun = sym c.begin-step.ensures in
-    let none = lists_none (b beginning) true (omega arith) in
-    (refl, refl, refl, refl, refl, subst (λ (s : Step). s.rest < 188) begun (omega arith), subst (λ (s : Step). ListsInput (b beginning) (b s) s.is_on) begun none)
+    let none = c.requires.begun.kept in
+    record {
+      fits = c.requires.fits;
+      short = rw none (omega arith);
+      listed = lists_none (between_of (told_held a.piece.now a.work.now)) true (rw none (omega arith));
+    }
 
-pub loop-turns-preserved : goal.loop-turns-preserved
-loop-turns-preserved c =
-    let l = c.loop-turns in
-    let on = (both_true (ltb 0 l.turns) l.step.is_on c.loop-turns-test.true).1 in
-    let turn = c.read_and_list-step.ensures in
-    (search rules, search rules, search rules, search rules, search rules, turn.rest_stays_short, lists_on _ _ _ _ on l.invariant.6 turn.takes_turn)
+pub returns-then-not-read_and_list : goal.returns-then-not-read_and_list
+returns-then-not-read_and_list c = lists_on _ _ true _ refl c.loop.invariant.listed c.if-not-read_and_list.ensures.takes_turn
+
+pub loop-preserved : goal.loop-preserved
+loop-preserved c =
+    let turn = c.if-not-read_and_list.ensures in
+    record { fits = turn.still_fits; short = turn.rest_stays_short; listed = lists_on _ _ true _ refl c.loop.invariant.listed turn.takes_turn }

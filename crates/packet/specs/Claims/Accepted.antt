@@ -1,9 +1,10 @@
 -- Document 01, "The packet" and "Numbers of the house", and document 02, ticket 6: what holds of every packet that is accepted.
-use Rattle.std.specs.Prelude.{◌≡◌, true, List, ◌↔◌, ℕ, ◌+◌, ◌*◌, ◌-◌, ◌^◌, ◌≤◌, ◌<◌, length, get_or, drop}
+use Rattle.std.specs.Prelude.{◌≡◌, true, List, ◌↔◌, ℕ, ◌+◌, ◌*◌, ◌-◌, ◌^◌, ◌≤◌, ◌<◌, length, get_or, drop, Some, None}
 use Rattle.ground.specs.House.{packet_bytes, payload_bytes}
 use Rattle.ground.specs.Answer.{given}
 use Rattle.ground.specs.Number.{is_flagged}
-use Rattle.ground.specs.Perhaps.{Perhaps, there, absent, presence}
+use Rattle.std.specs.declared.option.Option.{Option}
+use Rattle.ground.specs.Perhaps.{presence}
 use Rattle.clock.specs.Range.{stamp_turn, reference_turn}
 use Rattle.packet.specs.Part.{Span}
 use Rattle.packet.specs.Extension.{LegalWindow, SeamlessSplice, Extended}
@@ -12,16 +13,16 @@ use Rattle.packet.specs.Packet.{Contents, read_packet}
 use Rattle.packet.specs.Payload.{start_after, payload_start}
 
 -- bytes of the packet that are read stand before the payload
-abbrev pub Inside : List ℕ → Perhaps Span → Type 0
-Inside s part = (span : Span) → part ≡ there span → span.start + span.size ≤ payload_start s
+abbrev pub Inside : List ℕ → Option Span → Type 0
+Inside s part = (span : Span) → part ≡ Some span → span.start + span.size ≤ payload_start s
 
 -- "Clock reference: 0 to 2,576,980,377,599"
-abbrev pub InRange : Perhaps ℕ → Type 0
-InRange clock = (v : ℕ) → clock ≡ there v → v < reference_turn
+abbrev pub InRange : Option ℕ → Type 0
+InRange clock = (v : ℕ) → clock ≡ Some v → v < reference_turn
 
 -- the extension is there, and so is the flag of its flags byte that has `after` bits after it
-abbrev pub Flagged : List ℕ → Perhaps Span → ℕ → Type 0
-Flagged s extension after = (span : Span) × ((extension ≡ there span) × (is_flagged (get_or s span.start 0) after ≡ true))
+abbrev pub Flagged : List ℕ → Option Span → ℕ → Type 0
+Flagged s extension after = (span : Span) × ((extension ≡ Some span) × (is_flagged (get_or s span.start 0) after ≡ true))
 
 -- what the field tells of its extension
 abbrev pub extended_of : AdaptationField → Extended
@@ -34,11 +35,11 @@ told_size x = 1 + 2 * presence x.window + 3 * presence x.rate + 5 * presence x.s
 -- values that have room in their bits
 pub record Ranged (x : Extended) : Type 0 where
   -- "15-bit offset"
-  pub window : (w : LegalWindow) → x.window ≡ there w → w.offset < 2 ^ 15
+  pub window : (w : LegalWindow) → x.window ≡ Some w → w.offset < 2 ^ 15
   -- "piecewise rate (22 bits)"
-  pub rate : (n : ℕ) → x.rate ≡ there n → n < 2 ^ 22
+  pub rate : (n : ℕ) → x.rate ≡ Some n → n < 2 ^ 22
   -- "4-bit type, 33-bit stamp"
-  pub splice : (y : SeamlessSplice) → x.splice ≡ there y → (y.splice_type < 2 ^ 4) × (y.stamp < stamp_turn)
+  pub splice : (y : SeamlessSplice) → x.splice ≡ Some y → (y.splice_type < 2 ^ 4) × (y.stamp < stamp_turn)
 
 -- of a packet s that reads as p
 pub record Accepted (s : List ℕ) (p : Contents) : Type 0 where
@@ -53,11 +54,11 @@ pub record Accepted (s : List ℕ) (p : Contents) : Type 0 where
   pub start : payload_start s ≡ start_after p.field.size
   pub inside : payload_start s ≤ length s
   -- "Control 01: payload of 184 bytes"
-  pub whole : p.control ≡ 1 → (p.field.size ≡ absent) × (length (drop (payload_start s) s) ≡ payload_bytes)
+  pub whole : p.control ≡ 1 → (p.field.size ≡ None) × (length (drop (payload_start s) s) ≡ payload_bytes)
   -- "Control 10: adaptation length exactly 183, no payload"
-  pub none : p.control ≡ 2 → (p.field.size ≡ there 183) × (length (drop (payload_start s) s) ≡ 0)
+  pub none : p.control ≡ 2 → (p.field.size ≡ Some 183) × (length (drop (payload_start s) s) ≡ 0)
   -- "Control 11: length 0 to 182, payload 183 − length bytes"
-  pub rest : p.control ≡ 3 → (n : ℕ) × ((p.field.size ≡ there n) × (n ≤ 182) × (length (drop (payload_start s) s) ≡ 183 - n))
+  pub rest : p.control ≡ 3 → (n : ℕ) × ((p.field.size ≡ Some n) × (n ≤ 182) × (length (drop (payload_start s) s) ≡ 183 - n))
   -- the clock references are in range
   pub pcr : InRange p.field.pcr
   pub opcr : InRange p.field.opcr
@@ -69,7 +70,7 @@ pub record Accepted (s : List ℕ) (p : Contents) : Type 0 where
   pub rate_there : (presence p.field.rate ≡ 1) ↔ Flagged s p.field.extension 6
   pub splice_there : (presence p.field.splice ≡ 1) ↔ Flagged s p.field.extension 5
   -- "n at least 1, with flagged parts inside n"
-  pub parts : (span : Span) → p.field.extension ≡ there span → told_size (extended_of p.field) ≤ span.size
+  pub parts : (span : Span) → p.field.extension ≡ Some span → told_size (extended_of p.field) ≤ span.size
   -- what is told has room in its bits
   pub ranged : Ranged (extended_of p.field)
 

@@ -1,8 +1,9 @@
 -- Document 02, ticket 6: an extension and its bytes are made of each other. What was read is written again as the bytes were, what is written so is accepted and read back, and without an extension all is as document 01 says.
-use Rattle.std.specs.Prelude.{◌≡◌, cond, ◌&&◌, List, [], ◌∷◌, ◌++◌, ℕ, ◌^◌, ◌≤◌, ◌<◌, length, take, drop}
+use Rattle.std.specs.Prelude.{◌≡◌, cond, ◌&&◌, List, [], ◌∷◌, ◌++◌, ℕ, ◌^◌, ◌≤◌, ◌<◌, length, take, drop, Some, None}
 use Rattle.ground.specs.Answer.{refused, given}
 use Rattle.ground.specs.Number.{Bytes, bytes_of, field, pack, is_flagged}
-use Rattle.ground.specs.Perhaps.{Perhaps, there, absent, presence}
+use Rattle.std.specs.declared.option.Option.{Option}
+use Rattle.ground.specs.Perhaps.{presence}
 use Rattle.ground.specs.Refusal.{Row, judge, Silent, ◌when◌}
 use Rattle.clock.specs.Stamp.{stamp_field}
 use Rattle.packet.specs.Part.{Span}
@@ -12,9 +13,9 @@ use Rattle.packet.specs.Packet.{Contents, header_of, control_of, contents, heade
 use Rattle.packet.specs.Claims.Accepted.{extended_of, told_size, Ranged}
 
 -- the bytes of a part that may be missing
-abbrev pub spelt : {A : Type 0} → (A → List ℕ) → Perhaps A → List ℕ
-spelt bytes (there x) = bytes x
-spelt bytes absent = []
+abbrev pub spelt : {A : Type 0} → (A → List ℕ) → Option A → List ℕ
+spelt bytes (Some x) = bytes x
+spelt bytes None = []
 
 -- the window's two: valid 1, offset 15
 abbrev pub window_bytes : LegalWindow → List ℕ
@@ -49,7 +50,7 @@ pub record Spelt (s : List ℕ) (i : ℕ) (x : Extended) : Type 0 where
 -- in every packet of bytes that is accepted what was read is what stands there
 abbrev pub NothingLost : Type 0
 NothingLost =
-    (s : List ℕ) (p : Contents) → Bytes s → read_packet s ≡ given p → (span : Span) → p.field.extension ≡ there span
+    (s : List ℕ) (p : Contents) → Bytes s → read_packet s ≡ given p → (span : Span) → p.field.extension ≡ Some span
     → Spelt s span.start (extended_of p.field)
 
 -- ---- the other way round: nobody is refused for an extension that is right
@@ -66,13 +67,13 @@ plain_refusals s =
 -- a packet that document 01 does not refuse, and in whose extension what is told stands inside n, is accepted and tells just that
 abbrev pub ReadBack : Type 0
 ReadBack =
-    (s : List ℕ) (span : Span) (x : Extended) → Silent (plain_refusals s) → (contents s).field.extension ≡ there span
+    (s : List ℕ) (span : Span) (x : Extended) → Silent (plain_refusals s) → (contents s).field.extension ≡ Some span
     → Ranged x → told_size x ≤ span.size → Spelt s span.start x
     → (read_packet s ≡ given (contents s)) × (extended_of (contents s).field ≡ x)
 
 -- a packet without an extension is answered by document 01's own table, and tells none of the three
 abbrev pub AsBefore : Type 0
 AsBefore =
-    (s : List ℕ) → (contents s).field.extension ≡ absent
+    (s : List ℕ) → (contents s).field.extension ≡ None
     → (read_packet s ≡ judge refused (plain_refusals s) (given (contents s)))
-    × (extended_of (contents s).field ≡ record { window = absent; rate = absent; splice = absent })
+    × (extended_of (contents s).field ≡ record { window = None; rate = None; splice = None })

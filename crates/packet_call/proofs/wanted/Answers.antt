@@ -18,10 +18,10 @@ pub returns-then-packet-ne0 : goal.returns-then-packet-ne0
 returns-then-packet-ne0 c =
     let a = c.args in
     let pre = c.requires in
-    let contradicts = contradicts_told a.state a.i a.bytes.now a.store.now a.out.now a.sets.now c.held_of.ensures c.contradicts.ensures in
+    let contradicts = contradicts_told a.state a.i a.bytes.now a.store.now a.out.now a.sets.now c.held_of-held.ensures c.contradicts.ensures in
     let if1 = c.if-contradicts in
     let scrambling : (contents a.bytes.now).scrambling ≡ a.packet.scrambling = ap (λ (q : Contents). q.scrambling) (read_same a.bytes.now a.packet pre.area_and_packet.1) in
-    rw c.unhandled-then-packet-ne0.ensures
+    rw c.refused-then-packet-ne0.ensures
     (sym (tests_scrambled a.state a.i a.bytes.now a.store.now a.out.now a.sets.now (contradicts ∙ if1.false) (λ e. c.if-packet-ne0.true (sym scrambling ∙ e))))
 
 pub slice_bounds-payload-count : goal.slice_bounds-payload-count
@@ -43,7 +43,7 @@ pub returns-then-leaves_none : goal.returns-then-leaves_none
 returns-then-leaves_none c =
     let a = c.args in
     let pre = c.requires in
-    let contradicts = contradicts_told a.state a.i a.bytes.now a.store.now a.out.now a.sets.now c.held_of.ensures c.contradicts.ensures in
+    let contradicts = contradicts_told a.state a.i a.bytes.now a.store.now a.out.now a.sets.now c.held_of-held.ensures c.contradicts.ensures in
     let if1 = c.if-contradicts in
     let if2 = c.if-packet-ne0 in
     let payload_start = c.payload_start-at in
@@ -53,7 +53,7 @@ returns-then-leaves_none c =
     let scrambling : (contents b).scrambling ≡ a.packet.scrambling = ap (λ (q : Contents). q.scrambling) same in
     let part = ap (λ (n : ℕ). take (length b - n) (drop n b)) payload_start.ensures ∙ part_payload b a.packet pre.area_and_packet.1 in
     let none = leaves.ensures ∙ ap₂ leaves_none (ap (λ (q : Contents). q.unit_start) (sym same)) part in
-    rw c.unhandled-then-leaves_none.ensures
+    rw c.refused-then-leaves_none.ensures
     (sym (tests_none_left a.state a.i b a.store.now a.out.now a.sets.now (contradicts ∙ if1.false) (scrambling ∙ if2.false) (sym none ∙ c.if-leaves_none.true)))
 
 pub gathered-requires-clause-area_and_payload : goal.gathered-requires-clause-area_and_payload
@@ -65,14 +65,14 @@ gathered-requires-clause-area_and_payload c =
     let read = pre.area_and_packet.1 in
     let short = payload_short b a.packet read in
     let few = counter_few b a.packet read in
-    let contradicts = contradicts_told a.state a.i b a.store.now a.out.now a.sets.now c.held_of.ensures c.contradicts.ensures in
+    let contradicts = contradicts_told a.state a.i b a.store.now a.out.now a.sets.now c.held_of-held.ensures c.contradicts.ensures in
     (pre.area_and_packet.0, rw payload_start.ensures short, few, contradicts ∙ c.if-contradicts.false)
 
 pub returns : goal.returns
 returns c =
     let a = c.args in
     let pre = c.requires in
-    let contradicts = contradicts_told a.state a.i a.bytes.now a.store.now a.out.now a.sets.now c.held_of.ensures c.contradicts.ensures in
+    let contradicts = contradicts_told a.state a.i a.bytes.now a.store.now a.out.now a.sets.now c.held_of-held.ensures c.contradicts.ensures in
     let if1 = c.if-contradicts in
     let if2 = c.if-packet-ne0 in
     let payload_start = c.payload_start-at in

@@ -5,4 +5,4 @@ use Rattle.pmt.proofs.Placed.{part_inside}
 use Rattle.pmt.proofs.entry_descriptor_bytes.Goals as goal
 
 pub bytes_of-requires : goal.bytes_of-requires
-bytes_of-requires c = let a = c.args in rw c.entry_descriptor-d.ensures (part_inside a.section.now (a.entry + 1) a.index)
+bytes_of-requires c = let a = c.args in rw c.entry_descriptor.ensures (part_inside a.section.now (a.entry + 1) a.index)

@@ -1,17 +1,18 @@
 -- There is an entry with that index, or refusal 27; it stands where it was found.
 -- Assumes nothing.
-use mathlib.Core.Path.{sym, ◌∙◌}
-use Rattle.loops.specs.Walk.{found}
+use mathlib.Core.Path.{sym, ◌∙◌, ap}
+use Rattle.ground.specs.Answer.{given}
+use Rattle.loops.specs.Walk.{found_by}
 use Rattle.pmt.proofs.Answers.{entry_inside, entry_there}
 use Rattle.pmt.proofs.found_entry.Goals as goal
 
 pub entry_at-requires : goal.entry_at-requires
 entry_at-requires c =
     let a = c.args in
-    entry_inside a.section.now a.i (found a.entries a.descriptors a.place) c.requires c.if-entries-i.false
+    entry_inside a.section.now a.i (found_by a.walked) c.requires c.if-walked-i.false
 
 pub returns : goal.returns
 returns c =
     let a = c.args in
-    c.entry_at.ensures
-    ∙ sym (entry_there a.section.now a.i (found a.entries a.descriptors a.place) c.requires c.if-entries-i.false)
+    ap given c.entry_at.ensures
+    ∙ sym (entry_there a.section.now a.i (found_by a.walked) c.requires c.if-walked-i.false)

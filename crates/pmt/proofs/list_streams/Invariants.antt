@@ -2,8 +2,8 @@
 -- Assumes nothing.
 use mathlib.Core.Path.{◌≡◌}
 use mathlib.Core.List.{List}
-use Prim.Native.Nat.{ℕ, ◌-◌, ◌≤◌}
-use lib.ListN.{length, take}
+use Prim.Native.Nat.{ℕ}
+use lib.ListN.{take}
 use Rattle.ground.specs.Write.{put}
 use Rattle.loops.specs.Loop.{Entry}
 use Rattle.pmt.specs.Listed.{type_of, pid_of, start_of, size_of, each_of}
@@ -15,15 +15,7 @@ up_to i field section d = put d 0 (take i (each_of field section))
 
 abbrev pub invariant-loop-i : goal.invariant-loop-i
 invariant-loop-i l =
-    (l.i ≤ l.n)
-    × (length l.types ≡ length l.initial.types)
-    × (length l.pids ≡ length l.initial.pids)
-    × (length l.starts ≡ length l.initial.starts)
-    × (length l.sizes ≡ length l.initial.sizes)
-    × (l.types ≡ up_to l.i type_of l.section l.initial.types)
+    (l.types ≡ up_to l.i type_of l.section l.initial.types)
     × (l.pids ≡ up_to l.i pid_of l.section l.initial.pids)
     × (l.starts ≡ up_to l.i start_of l.section l.initial.starts)
     × (l.sizes ≡ up_to l.i size_of l.section l.initial.sizes)
-
-abbrev pub decreases-loop-i : goal.decreases-loop-i
-decreases-loop-i l = l.n - l.i

@@ -4,4 +4,4 @@ use Rattle.pmt.proofs.Placed.{part_inside}
 use Rattle.pmt.proofs.program_descriptor_bytes.Goals as goal
 
 pub bytes_of-requires : goal.bytes_of-requires
-bytes_of-requires c = let a = c.args in rw c.program_descriptor-d.ensures (part_inside a.section.now 0 a.index)
+bytes_of-requires c = let a = c.args in rw c.program_descriptor.ensures (part_inside a.section.now 0 a.index)

@@ -7,5 +7,5 @@ use Rattle.psi.proofs.judge.Goals as goal
 pub returns-then-residue-ne0 : goal.returns-then-residue-ne0
 returns-then-residue-ne0 c = rw (right_residue c.args.section.now) (search rules)
 
-pub returns : goal.returns
-returns c = rw (right_residue c.args.section.now) (search rules)
+pub returns-else-residue-ne0 : goal.returns-else-residue-ne0
+returns-else-residue-ne0 c = rw (right_residue c.args.section.now) (search rules)

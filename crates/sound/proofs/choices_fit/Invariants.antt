@@ -3,16 +3,12 @@
 use mathlib.Core.Path.{◌≡◌}
 use mathlib.Core.Bool.{◌&&◌}
 use mathlib.Core.List.{map}
-use Prim.Native.Nat.{◌-◌, ◌≤◌}
-use lib.ListN.{drop}
+use lib.ListN.{length, drop}
 use Rattle.ground.specs.Walk.{all}
 use Rattle.state.specs.Choice.{placed}
 use Rattle.sound.specs.Sound.{sound_place}
 use Rattle.sound.specs.Steps.{known}
 use Rattle.sound.proofs.choices_fit.Given as goal
 
-abbrev pub invariant-loop-i : goal.invariant-loop-i
-invariant-loop-i l = (l.i ≤ 32) × ((l.fits && all sound_place (drop l.i (placed (map known l.numbers) l.choices))) ≡ all sound_place (placed (map known l.numbers) l.choices))
-
-abbrev pub decreases-loop-i : goal.decreases-loop-i
-decreases-loop-i l = 32 - l.i
+abbrev pub invariant-loop-number : goal.invariant-loop-number
+invariant-loop-number l = (l.fits && all sound_place (drop (length l.yielded) (placed (map known l.fn.numbers) l.fn.choices))) ≡ all sound_place (placed (map known l.fn.numbers) l.fn.choices)

@@ -2,14 +2,11 @@
 -- Assumes nothing.
 use mathlib.Core.Path.{◌≡◌}
 use mathlib.Core.Bool.{true}
-use Prim.Native.Nat.{◌≤◌}
-use lib.ListN.{drop}
-use Rattle.ground.specs.Walk.{all}
-use Rattle.sound.specs.Steps.{is_free_area, is_none}
+use Prim.Native.Nat.{ℕ, ◌<◌, ◌≤◌}
+use lib.ListN.{get_or}
+use Rattle.state.specs.State.{free_area}
+use Rattle.sound.specs.Steps.{is_free_area}
 use Rattle.sound.proofs.end_of_areas.Given as goal
 
-abbrev pub invariant-loop-end : goal.invariant-loop-end
-invariant-loop-end l = (l.end ≤ 8) × (all is_free_area (drop l.end l.areas) ≡ true) × (all is_none (drop l.end l.counts) ≡ true)
-
-abbrev pub decreases-loop-end : goal.decreases-loop-end
-decreases-loop-end l = l.end
+abbrev pub invariant-loop-i : goal.invariant-loop-i
+invariant-loop-i l = (k : ℕ) → k < 8 → l.i ≤ k → (is_free_area (get_or l.areas k free_area) ≡ true) × (get_or l.counts k 0 ≡ 0)

@@ -1,19 +1,9 @@
 -- A return for each test, and what a packet does after others by the verdict so far.
 -- Assumes nothing.
-use Rattle.std.proofs.Common.{◌≡◌, ℕ, refl, ap, sym, ◌∙◌, arith}
-use Rattle.ground.proofs.Refusal.{yes≢, no≢, yes<, no<}
-use Rattle.buffer.specs.Model.{moved, came_after, step_of}
-use Rattle.buffer.specs.declared.Verdict.{Verdict}
-use Rattle.buffer.specs.declared.Verdict.TheVariants as verdict
-use Rattle.buffer.specs.declared.model.Judging.{Judging}
+use Rattle.std.proofs.Common.{◌≡◌, refl, sym, ◌∙◌, arith}
+use Rattle.ground.proofs.Refused.{yes≢, no≢, yes<, no<}
+use Rattle.buffer.specs.Model.{step_of}
 use Rattle.buffer.proofs.model.step.Goals as goal
-
--- the other verdicts stay
-stays : (j : Judging) (i t : ℕ) (v : Verdict) → (v ≡ verdict.Passes → ⊥) → moved j t v ≡ came_after j i t v
-stays j i t verdict.Passes other = absurd (other refl)
-stays j i t (verdict.Overruns k) other = refl
-stays j i t (verdict.Lingers k) other = refl
-stays j i t (verdict.Refused n) other = refl
 
 pub returns-then-pid-j : goal.returns-then-pid-j
 unfolding step_of
@@ -27,16 +17,16 @@ returns-then-tick-j c =
     let a = c.args in
     no≢ a.pid a.j.pid _ _ (omega arith) (yes< a.tick a.j.last _ _ (omega arith) c.moved.ensures)
 
-pub returns-in_default : goal.returns-in_default
+pub returns-then-is_settled : goal.returns-then-is_settled
 unfolding step_of
-returns-in_default c =
+returns-then-is_settled c =
     let a = c.args in
     no≢ a.pid a.j.pid _ _ (omega arith) (no< a.tick a.j.last _ _ (omega arith)
-    (c.moved-in_default.ensures ∙ stays a.j a.i a.tick a.j.verdict c.in_default.not-Passes))
+    (rw (sym c.is_settled.ensures ∙ c.if-is_settled.true) c.moved-then-is_settled.ensures))
 
 pub returns : goal.returns
 unfolding step_of
 returns c =
     let a = c.args in
     no≢ a.pid a.j.pid _ _ (omega arith) (no< a.tick a.j.last _ _ (omega arith)
-    (c.arrived.ensures ∙ ap (came_after a.j a.i a.tick) (sym c.in-Passes.is)))
+    (rw (sym c.is_settled.ensures ∙ c.if-is_settled.false) c.arrived.ensures))

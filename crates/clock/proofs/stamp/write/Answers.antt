@@ -3,7 +3,7 @@
 use Rattle.std.proofs.Common.{div-one, arith}
 use Rattle.ground.specs.Number.{bytes_of}
 use Rattle.ground.proofs.Write.{sets_put}
-use Rattle.ground.proofs.Refusal.{tests}
+use Rattle.ground.proofs.Refused.{tests}
 use Rattle.clock.proofs.stamp.write.Goals as goal
 
 pub returns : goal.returns

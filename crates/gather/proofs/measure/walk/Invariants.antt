@@ -2,14 +2,14 @@
 -- Assumes nothing.
 use Rattle.gather.proofs.Sized.{walked, grown}
 use lib.ListN.{length, drop}
-use Prim.Native.Nat.{◌+◌, ◌-◌, ◌≤◌}
+use Prim.Native.Nat.{◌-◌, ◌≤◌}
 use mathlib.Core.Path.{◌≡◌}
 use Rattle.gather.proofs.measure.walk.Given as goal
 
 abbrev pub invariant-loop-n : goal.invariant-loop-n
 invariant-loop-n l =
-    (l.from + l.bytes ≤ length l.payload) × (l.sections ≤ l.bytes)
-    × (walked (drop l.from l.payload) ≡ grown l.sections l.bytes (walked (drop (l.from + l.bytes) l.payload)))
+    (l.bytes ≤ length l.s) × (l.sections ≤ l.bytes)
+    × (walked l.s ≡ grown l.sections l.bytes (walked (drop l.bytes l.s)))
 
 abbrev pub decreases-loop-n : goal.decreases-loop-n
-decreases-loop-n l = length l.payload - l.bytes
+decreases-loop-n l = length l.s - l.bytes

@@ -1,63 +1,32 @@
--- `started` measures both parts of the payload, then copies: the finished held section, the sections after it, and what is held.
+-- `started` cuts the payload where the pointer says, or at its end.
 -- Assumes nothing.
-use mathlib.Core.Path.{◌≡◌, ◌∙◌, ap, ap₂}
-use mathlib.Core.List.{List}
-use Prim.Native.Nat.{ℕ, ◌+◌, ◌-◌, ◌<◌, min}
+use mathlib.Core.Path.{◌≡◌, ◌∙◌, ap}
+use Prim.Native.Nat.{ℕ, ◌+◌, ◌-◌, min}
 use native.Mathlib.Omega.{arith}
-use lib.ListN.{length, get_or, drop, length-drop}
-use Rattle.ground.proofs.Part.{length_part}
-use Rattle.ground.specs.Write.{put}
-use Rattle.gather.specs.Rule.{add, walk, begun_in}
-use Rattle.gather.specs.Memory.{stretch}
-use Rattle.gather.specs.Steps.{sizes_as, sizes_of, carried_as, Room}
-use Rattle.gather.specs.declared.measure.Sizes.{Sizes}
-use Rattle.gather.proofs.OnMemory.{AddedFits, added_fits, WalkedFits, walked_fits, unfinished_le, started_carried}
+use lib.ListN.{length, get_or, take, drop, length-take, length-drop}
+use Rattle.std.proofs.lemmas.Slice.{between_to_end}
+use Rattle.gather.specs.Rule.{started}
+use Rattle.gather.proofs.OnMemory.{front_is, back_is}
 use Rattle.gather.proofs.memory.started.Goals as goal
 
--- what the first part gives, with the held bytes, and what the sections after it give
-first_fits : {held : ℕ} {payload store : List ℕ} {base : ℕ} {out : List ℕ} {from : ℕ} {z : Sizes} → Room held payload store base out → 0 < length payload
-    → from ≡ min (1 + get_or payload 0 0) (length payload)
-    → z ≡ sizes_of 0 (add (stretch held store base) (stretch (from - 1) payload 1)) → AddedFits held (from - 1) z
-first_fits {held} {payload} {store} {base} {out} {from} {z} room some cut e =
-    added_fits (stretch held store base) (stretch (from - 1) payload 1) held (from - 1) z
-    (length_part held store base (omega (arith, room.bound, room.area)))
-    (length_part (from - 1) payload 1 (omega (arith, cut, some)))
-    e
+pub parted-requires-clause-after_pointer : goal.parted-requires-clause-after_pointer
+parted-requires-clause-after_pointer c =
+    let p = c.args.payload.now in
+    let from = c.min-from.result in
+    omega (arith, length-take (from - 1) (drop 1 p), length-take (length p - from) (drop from p), length-drop 1 p, length-drop from p, c.min-from.ensures, c.requires.room.short, c.requires.payload_nonzero)
 
-rest_fits : (payload : List ℕ) (from : ℕ) {z : Sizes} → z ≡ sizes_of (begun_in (drop from payload)) (walk (drop from payload)) → WalkedFits (length payload - from) z
-rest_fits payload from {z} e = rw (length-drop from payload) at (walked_fits (drop from payload) (begun_in (drop from payload)) z e)
-
-pub finish-requires : goal.finish-requires
-finish-requires c = omega (arith, first_fits c.requires.room c.requires.payload_nonzero c.lesser-from.ensures c.added-first.ensures, c.requires.room, c.lesser-from.ensures)
-
-pub copy-requires : goal.copy-requires
-copy-requires c = omega (arith, first_fits c.requires.room c.requires.payload_nonzero c.lesser-from.ensures c.added-first.ensures, rest_fits c.args.payload.now c.lesser-from.result c.walk-rest.ensures, c.requires.room, c.lesser-from.ensures, c.finish.auto)
-
-pub overflow_add-from : goal.overflow_add-from
-overflow_add-from c = omega (arith, first_fits c.requires.room c.requires.payload_nonzero c.lesser-from.ensures c.added-first.ensures, rest_fits c.args.payload.now c.lesser-from.result c.walk-rest.ensures, c.requires.room, c.lesser-from.ensures)
-
-pub copy-requires-2 : goal.copy-requires-2
-copy-requires-2 c = omega (arith, first_fits c.requires.room c.requires.payload_nonzero c.lesser-from.ensures c.added-first.ensures, rest_fits c.args.payload.now c.lesser-from.result c.walk-rest.ensures, c.requires.room, c.lesser-from.ensures)
-
-pub overflow_add-result : goal.overflow_add-result
-overflow_add-result c = omega (arith, first_fits c.requires.room c.requires.payload_nonzero c.lesser-from.ensures c.added-first.ensures, rest_fits c.args.payload.now c.lesser-from.result c.walk-rest.ensures, c.requires.room, c.lesser-from.ensures)
-
-pub overflow_add-result-2 : goal.overflow_add-result-2
-overflow_add-result-2 c = omega (arith, first_fits c.requires.room c.requires.payload_nonzero c.lesser-from.ensures c.added-first.ensures, rest_fits c.args.payload.now c.lesser-from.result c.walk-rest.ensures, c.requires.room, c.lesser-from.ensures)
-
-pub overflow_add-result-3 : goal.overflow_add-result-3
-overflow_add-result-3 c = omega (arith, first_fits c.requires.room c.requires.payload_nonzero c.lesser-from.ensures c.added-first.ensures, c.unfinished.ensures, unfinished_le c.added-first.result.held)
-
-pub overflow_add-result-4 : goal.overflow_add-result-4
-overflow_add-result-4 c = omega (arith, first_fits c.requires.room c.requires.payload_nonzero c.lesser-from.ensures c.added-first.ensures, rest_fits c.args.payload.now c.lesser-from.result c.walk-rest.ensures, c.unfinished.ensures, unfinished_le c.added-first.result.held)
+pub parted-requires-clause-room : goal.parted-requires-clause-room
+parted-requires-clause-room c =
+    let room = c.requires.room in
+    let size = length-take (c.min-from.result - 1) (drop 1 c.args.payload.now) in
+    record { bound = room.bound; short = omega (arith, room.short, size, length-drop 1 c.args.payload.now); area = room.area; output = room.output }
 
 pub returns : goal.returns
+unfolding started
 returns c =
     let a = c.args in
-    let from = c.lesser-from.result in
-    let x = c.added-first.result in
-    let y = c.walk-rest.result in
-    let z = sizes_as (x.sections + y.sections) (x.bytes + y.bytes) y.held (x.given_up + c.unfinished.result + y.given_up) y.begun in
-    ap₂ (carried_as z) c.copy-2.ensures (c.copy.ensures ∙ ap (λ (l : List ℕ). put l x.bytes (stretch y.bytes a.payload.now from)) c.finish.ensures)
-    ∙ rw c.unfinished.ensures (started_carried a.held a.payload.now a.store.now a.base a.out.now c.requires.room c.requires.payload_nonzero
-    from c.lesser-from.ensures x y c.added-first.ensures c.walk-rest.ensures)
+    let p = a.payload.now in
+    let cut : c.min-from.result ≡ min (length p) (1 + get_or p 0 0) = c.min-from.ensures ∙ ap (λ (n : ℕ). min (length p) (1 + n)) c.from.ensures in
+    let whole : take (length p - c.min-from.result) (drop c.min-from.result p) ≡ drop c.min-from.result p = between_to_end p c.min-from.result (length p) (omega arith) in
+    let told = rw (whole, cut, front_is p c.requires.payload_nonzero, back_is p) at c.parted.ensures in
+    told

@@ -1,9 +1,0 @@
--- The count of numbers falls.
--- Assumes nothing.
-use Rattle.bench.proofs.filters.use_up.Given as goal
-
-abbrev pub invariant-loop-left : goal.invariant-loop-left
-invariant-loop-left l = Unit {0}
-
-abbrev pub decreases-loop-left : goal.decreases-loop-left
-decreases-loop-left l = l.left
