@@ -16,6 +16,8 @@ use Rattle.ground.proofs.Refused.{tests, yes, no}
 use Rattle.ground.proofs.Walk.{mapped_length}
 use Rattle.state.specs.State.{free_place_of, is_free}
 use Rattle.state.specs.declared.Area.{Area}
+use Rattle.state.specs.declared.Choice.{Choice}
+use Rattle.state.specs.declared.State.{State}
 use Rattle.state.proofs.Found.{some_same, some_none, index_some, index_none}
 use Rattle.state.specs.Choice.{sound_choice, code_of}
 use Rattle.state.proofs.Chosen.{choice_sound, choice_unsound}
@@ -41,6 +43,13 @@ none_found pid areas e = go (ltb (area_for pid areas) (length areas)) refl e
     go true t e = absurd (some_none (sym e))
     go false t e = ltb-false _ _ t
 
+-- the first row and the one of the choice do not apply
+state_passes : (s : State) {told : Bool} → told ≡ sound s → told ≡ true → not (sound s) ≡ false
+state_passes s e yes = ap not (sym e ∙ yes)
+
+choice_passes : (choice : Choice) {code : ℕ} → code ≡ code_of choice → code ≤ 255 → not (sound_choice choice) ≡ false
+choice_passes choice e h = ap not (choice_sound choice (rw e at h))
+
 pub returns-then-not-is_sound : goal.returns-then-not-is_sound
 unfolding open_of
 returns-then-not-is_sound c =
@@ -50,14 +59,14 @@ returns-then-not-is_sound c =
 pub returns-then-pid-gt-LAST_FILTER_PID : goal.returns-then-pid-gt-LAST_FILTER_PID
 unfolding open_of
 returns-then-pid-gt-LAST_FILTER_PID c =
-    let fine : not (sound c.args.state) ≡ false = ap not (sym c.is_sound.ensures ∙ c.if-not-is_sound.false) in
+    let fine = state_passes c.args.state c.is_sound.ensures c.if-not-is_sound.false in
     search (yes, no, tests)
 
 pub returns-then-code-gt-LAST_CHOICE : goal.returns-then-code-gt-LAST_CHOICE
 unfolding open_of
 returns-then-code-gt-LAST_CHOICE c =
     let a = c.args in
-    let fine : not (sound a.state) ≡ false = ap not (sym c.is_sound.ensures ∙ c.if-not-is_sound.false) in
+    let fine = state_passes a.state c.is_sound.ensures c.if-not-is_sound.false in
     let above : 255 < code_of a.choice = omega (arith, c.code_of-code.ensures, c.if-code-gt-LAST_CHOICE.true) in
     let barred : not (sound_choice a.choice) ≡ true = ap not (choice_unsound a.choice above) in
     search (yes, no, tests)
@@ -66,8 +75,8 @@ pub returns-then-state-gt-LAST_NUMBER : goal.returns-then-state-gt-LAST_NUMBER
 unfolding open_of
 returns-then-state-gt-LAST_NUMBER c =
     let a = c.args in
-    let chosen : not (sound_choice a.choice) ≡ false = ap not (choice_sound a.choice (rw c.code_of-code.ensures at c.if-code-gt-LAST_CHOICE.false)) in
-    let fine : not (sound a.state) ≡ false = ap not (sym c.is_sound.ensures ∙ c.if-not-is_sound.false) in
+    let chosen = choice_passes a.choice c.code_of-code.ensures c.if-code-gt-LAST_CHOICE.false in
+    let fine = state_passes a.state c.is_sound.ensures c.if-not-is_sound.false in
     search (yes, no, tests)
 
 pub returns-in_err-place : goal.returns-in_err-place
@@ -75,8 +84,8 @@ unfolding open_of
 returns-in_err-place c =
     let a = c.args in
     let s = a.state in
-    let chosen : not (sound_choice a.choice) ≡ false = ap not (choice_sound a.choice (rw c.code_of-code.ensures at c.if-code-gt-LAST_CHOICE.false)) in
-    let fine : not (sound s) ≡ false = ap not (sym c.is_sound.ensures ∙ c.if-not-is_sound.false) in
+    let chosen = choice_passes a.choice c.code_of-code.ensures c.if-code-gt-LAST_CHOICE.false in
+    let fine = state_passes s c.is_sound.ensures c.if-not-is_sound.false in
     let none : c.free_place.result ≡ None = grind arith in
     let full : length s.filters ≤ free_place_of s.filters = index_none is_free s.filters (sym none ∙ c.free_place.ensures) in
     let why : c.in_err-place.field-0.0 ≡ refusal.NoFreePlace = grind arith in
@@ -88,8 +97,8 @@ unfolding open_of
 returns-in_err-area c =
     let a = c.args in
     let s = a.state in
-    let chosen : not (sound_choice a.choice) ≡ false = ap not (choice_sound a.choice (rw c.code_of-code.ensures at c.if-code-gt-LAST_CHOICE.false)) in
-    let fine : not (sound s) ≡ false = ap not (sym c.is_sound.ensures ∙ c.if-not-is_sound.false) in
+    let chosen = choice_passes a.choice c.code_of-code.ensures c.if-code-gt-LAST_CHOICE.false in
+    let fine = state_passes s c.is_sound.ensures c.if-not-is_sound.false in
     let some : c.free_place.result ≡ Some c.in_ok-place.place = grind arith in
     let room : free_place_of s.filters < length s.filters = (index_some is_free s.filters (sym some ∙ c.free_place.ensures)).1 in
     let none : c.area_for.result ≡ None = grind arith in
@@ -118,8 +127,8 @@ unfolding open_of
 returns c =
     let a = c.args in
     let s = a.state in
-    let chosen : not (sound_choice a.choice) ≡ false = ap not (choice_sound a.choice (rw c.code_of-code.ensures at c.if-code-gt-LAST_CHOICE.false)) in
-    let fine : not (sound s) ≡ false = ap not (sym c.is_sound.ensures ∙ c.if-not-is_sound.false) in
+    let chosen = choice_passes a.choice c.code_of-code.ensures c.if-code-gt-LAST_CHOICE.false in
+    let fine = state_passes s c.is_sound.ensures c.if-not-is_sound.false in
     let some : c.free_place.result ≡ Some c.in_ok-place.place = grind arith in
     let place = index_some is_free s.filters (sym some ∙ c.free_place.ensures) in
     let room : free_place_of s.filters < length s.filters = place.1 in
