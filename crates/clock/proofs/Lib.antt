@@ -1,5 +1,6 @@
 pub mod Modulus
 pub mod Turn
+pub mod Signed
 pub mod Less
 pub mod SignedSum
 pub mod ClockSums

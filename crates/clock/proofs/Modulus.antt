@@ -1,6 +1,6 @@
 -- Counting around a turn, for every modulus: adding what was taken away is a whole turn more, which a remainder does not see.
 -- Assumes nothing.
-use Rattle.std.proofs.Common.{◌≡◌, ℕ, ◌+◌, ◌-◌, ◌%◌, ◌≤◌, sym, ap, ◌∙◌, mod-lt, mod-eq_of_lt, arith}
+use Rattle.std.proofs.Common.{◌≡◌, ℕ, ◌+◌, ◌-◌, ◌%◌, ◌<◌, ◌≤◌, sym, ap, ◌∙◌, mod-lt, mod-eq_of_lt, arith}
 use native.Mathlib.Nat.{mod-add-mod, add-mod-mod, add-mod_right, mod_self, mod-mod_of_dvd, dvd_of_mod-eq-zero}
 use Rattle.clock.specs.Modulus.{minus_mod}
 use Rattle.clock.specs.Claims.Modulus.{Around, Wrapped}
@@ -32,6 +32,13 @@ around m =
       self = minus_self m;
       whole = λ a b h l. minus_sum m b a b h ∙ minus_self m b l;
     }
+
+-- without a turn, and with one
+pub minus_ahead : (m a b : ℕ) → b ≤ a → a < m → a - b ≡ minus_mod m a b
+minus_ahead m a b h l = sym (ap (λ (x : ℕ). x % m) (omega arith) ∙ add-mod_right (a - b) m ∙ mod-eq_of_lt (omega arith))
+
+pub minus_behind : (m a b : ℕ) → a < b → b < m → a + (m - b) ≡ minus_mod m a b
+minus_behind m a b h l = sym (mod-eq_of_lt (omega arith))
 
 -- that m divides the wrap is told by the step back from 0 to 1 alone
 pub wrapped : (m wrap : ℕ) → Wrapped m wrap

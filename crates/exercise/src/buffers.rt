@@ -10,16 +10,41 @@ pub(crate) fn first_of<T>(items: &mut [T], size: u64) -> &mut [T] {
     &mut items[..n]
 }
 
-// The first and the last place where two buffers of one size differ.
+// So many items are compared at once.
+const GROUP: usize = 64;
+
+// How many items are passed with the groups before this one, or with all whole groups of so many items where there is none.
+fn passed(group: Option<usize>, items: usize) -> usize
+    ensures { result ≤ items }
+{
+    match group {
+        Some(i) => i.saturating_mul(GROUP).min(items),
+        None => items / GROUP * GROUP,
+    }
+}
+
+// The first and the last place where two buffers of one size differ. Groups that are the same are passed at once, from the front and then from the back.
 fn apart<T: PartialEq>(now: &[T], before: &[T]) -> Option<(usize, usize)>
     ensures { IfSome result (λ r. (r.0 ≤ r.1) × (r.1 < length now.now)) }
 {
+    let group = now
+        .chunks_exact(GROUP)
+        .zip(before.chunks_exact(GROUP))
+        .position(|(a, b)| a != b);
+    let same = passed(group, now.len().min(before.len()));
+    let (now, before) = (&now[same..], &before[same..]);
     let first = now.iter().zip(before).position(|(a, b)| a != b)?;
-    let more = now[first..]
+    let (now, before) = (&now[first..], &before[first..]);
+    let group = now
+        .rchunks_exact(GROUP)
+        .zip(before.rchunks_exact(GROUP))
+        .position(|(a, b)| a != b);
+    let behind = passed(group, now.len().min(before.len()));
+    let more = now[..now.len() - behind]
         .iter()
-        .zip(&before[first..])
+        .zip(&before[..before.len() - behind])
         .rposition(|(a, b)| a != b)?;
-    Some((first, first + more))
+    Some((same + first, same + first + more))
 }
 
 // The name of a buffer or of the list, and the first and the last place that changed. What stands from the first to the last is told behind them, or a dash where nothing changed.

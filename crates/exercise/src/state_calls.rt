@@ -102,31 +102,26 @@ impl Kept {
         if (40960 < lent) | (8192 < lent_out) | (128 < places) {
             return None;
         }
-        let mut store = self.store;
-        let mut out = self.out;
-        let mut list = self.list;
+        let (store, out, list) = (self.store, self.out, self.list);
         let handled = driver::packet(
             self.state,
             bytes,
-            first_of(&mut store, lent),
-            first_of(&mut out, lent_out),
-            first_of(&mut list, places),
+            first_of(&mut self.store, lent),
+            first_of(&mut self.out, lent_out),
+            first_of(&mut self.list, places),
         );
+        self.state = handled.state;
         text.word(b"packet");
         match handled.answer {
             Ok(None) => word(text, b"unwanted"),
             Ok(Some(report)) => report.tell(text),
             Err(why) => why.tell(text),
         }
-        let stored = changed(text, b"store", &store, &self.store);
+        let stored = changed(text, b"store", &self.store, &store);
         stored.map(digest).tell(text);
-        let put_out = changed(text, b"output", &out, &self.out);
+        let put_out = changed(text, b"output", &self.out, &out);
         put_out.map(digest).tell(text);
-        changed(text, b"sets", &list, &self.list).tell(text);
-        self.state = handled.state;
-        self.store = store;
-        self.out = out;
-        self.list = list;
+        changed(text, b"sets", &self.list, &list).tell(text);
         print_state(text, &self.state);
         Some(())
     }

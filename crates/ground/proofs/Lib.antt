@@ -13,6 +13,7 @@ pub mod Part
 pub mod Outcome
 pub mod Field
 pub mod Items
+pub mod Lent
 pub mod Entries
 pub mod Xor
 pub mod Told

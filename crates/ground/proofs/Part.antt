@@ -9,8 +9,8 @@ use native.Mathlib.Numerals.{add-one, add-two}
 use native.Mathlib.Omega.{arith}
 use borrow.Author.Tests.{ltb-true, ltb-false, le-ltb}
 use lib.Dec.{ltb}
-use lib.ListN.{length, get_or, take, drop, length-append, length-take, length-drop, drop_of_length-le, get_or-append}
-use lib.Seq.{slice, slice-cons, slice_empty, drop-append_seam, drop_at, drop-drop, get_or-drop, get_or-take, length-take-le, take-add, take_all, take-append-add, take-append-le, take-append_seam, take_at, take-length, take-nil}
+use lib.ListN.{length, get_or, take, drop, length-append, length-take, length-drop, drop_of_length-le, get_or-append, get_or-eq_default}
+use lib.Seq.{slice, slice-cons, slice_empty, drop-append_seam, drop_at, drop-drop, get_or-append-add, get_or-drop, get_or-take, length-take-le, take-add, take_all, take-append-add, take-append-le, take-append_seam, take_at, take-length, take-nil, take-take}
 use Rattle.ground.specs.Number.{number_of, bytes_at, number_at}
 use Rattle.ground.specs.Write.{put}
 use Rattle.ground.proofs.Write.{put-put, put_nil, put_same}
@@ -23,6 +23,17 @@ module _ {ℓ} {A : Type ℓ} where
   -- ---- its size and its elements
   pub length_part : (n : ℕ) (s : List A) (at : ℕ) → at + n ≤ length s → length (take n (drop at s)) ≡ n
   length_part n s at h = length-take-le n (drop at s) (rw length-drop (omega arith))
+
+  pub part_at : (n : ℕ) (s : List A) (at i : ℕ) (d : A) → i < n → get_or (take n (drop at s)) i d ≡ get_or s (at + i) d
+  part_at n s at i d h = get_or-take n (drop at s) i d h ∙ get_or-drop at s i d
+
+  pub part_past : (n : ℕ) (s : List A) (at i : ℕ) (d : A) → at + n ≤ length s → n ≤ i → get_or (take n (drop at s)) i d ≡ d
+  part_past n s at i d f h = get_or-eq_default (take n (drop at s)) d (rw (length_part n s at f) h)
+
+  -- an element of what follows n others
+  pub behind_at : (a b : List A) (n i : ℕ) (d : A) → length a ≡ n → n ≤ i → get_or (a ++ b) i d ≡ get_or b (i - n) d
+  behind_at a b n i d e h =
+      ap (λ (k : ℕ). get_or (a ++ b) k d) (let g : i ≡ length a + (i - n) = omega arith in g) ∙ get_or-append-add a b (i - n) d
 
   -- the first k of s and what follows them: an element of the first k, and the size
   module _ (k : ℕ) (s t : List A) (h : k ≤ length s) where
@@ -92,6 +103,20 @@ module _ {ℓ} {A : Type ℓ} where
   -- a part passed and then another is both passed
   pub drop_both : (l : List A) (place size : ℕ) → drop (min (place + size) (length l)) l ≡ drop size (drop place l)
   drop_both l place size = drop_least l (place + size) ∙ sym (drop-drop size place l)
+
+  -- elements taken of the joined ones, from a part of the second list that is long enough
+  pub take_joined : (a b : List A) (n m : ℕ) → n ≤ length a + m → take n (a ++ take m b) ≡ take n (a ++ b)
+  take_joined a b n m h = go (ltb n (length a)) refl
+    where
+      go : (c : Bool) → ltb n (length a) ≡ c → take n (a ++ take m b) ≡ take n (a ++ b)
+      go true e = let l = ltb-true n (length a) e in take-append-le n a (take m b) (omega arith) ∙ sym (take-append-le n a b (omega arith))
+      go false e =
+          let l = ltb-false n (length a) e in
+          let both : n ≡ length a + (n - length a) = omega arith in
+          rw both
+          (take-append-add a (take m b) (n - length a)
+          ∙ ap (λ (l : List A). a ++ l) (take-take (n - length a) m b (omega arith))
+          ∙ sym (take-append-add a b (n - length a)))
 
   -- ---- elements that stand in a list from a place on
   abbrev pub Standing : List A → ℕ → List A → Type ℓ

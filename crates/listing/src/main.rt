@@ -103,10 +103,16 @@ fn main(rt: HostRuntime) {
     let mut text = Text::new(&mut room);
     lines::header(&mut text);
     if write(rt, &text) {
-        let mut work = pieces::begin(&mut store, &mut out, &mut sets);
+        let begun = pieces::begin();
+        let mut work = Work {
+            progress: begun.progress,
+            store: &mut store,
+            out: &mut out,
+            sets: &mut sets,
+        };
         let mut piece = Piece {
             bytes: &mut bytes,
-            kept: 0,
+            kept: begun.kept,
         };
         list_all(rt, &mut piece, &mut work, &mut text);
     }

@@ -2,16 +2,32 @@
 -- Assumes nothing.
 use mathlib.Core.Path.{◌≡◌, refl, ap}
 use mathlib.Core.Bool.{false, not}
+use mathlib.Core.List.{List}
 use Prim.Native.Nat.{ℕ, zero, suc, ◌+◌, ◌-◌, ◌<◌, ◌≤◌}
 use native.Mathlib.Omega.{arith}
-use borrow.Author.Tests.{le-leb, ltb-false, eqb-true, not-false}
+use borrow.Author.Tests.{le-leb, lt-leb, ne_eqb, ltb-false, eqb-true, not-false}
 use lib.Dec.{eqb, lit≤}
+use lib.ListN.{get_or}
+use Rattle.ground.specs.Answer.{given}
 use Rattle.std.specs.declared.option.Option.{Option}
 use Rattle.std.specs.Prelude.{Some, None}
 use Rattle.ground.specs.Perhaps.{perhaps}
 use Rattle.ground.proofs.Test.{neither}
-use Rattle.packet.specs.Adaptation.{has_field, is_wrong_length}
+use Rattle.packet.specs.Adaptation.{has_field, is_wrong_length, length_of}
 use Rattle.packet.specs.Payload.{start_after}
+use Rattle.packet.specs.Steps.{bare_field, read_flagged, read_field}
+
+-- ---- the three forms
+pub field_none : (control : ℕ) (s : List ℕ) → control < 2 → read_field control s ≡ given (bare_field None)
+field_none control s h = rw (lt-leb 2 control h, ne_eqb control 2 (λ e. omega arith), ne_eqb control 3 (λ e. omega arith))
+
+module _ (control : ℕ) (s : List ℕ) (has : 2 ≤ control) (right : is_wrong_length control (length_of s) ≡ false) where
+  pub field_bare : length_of s ≡ 0 → read_field control s ≡ given (bare_field (Some 0))
+  field_bare e = rw (right, le-leb 2 control has, e)
+
+  pub field_flagged : (length_of s ≡ 0 → ⊥)
+      → read_field control s ≡ read_flagged s (Some (length_of s)) (get_or s 5 0)
+  field_flagged e = rw (right, le-leb 2 control has, ne_eqb (length_of s) 0 e)
 
 -- ---- what a right length says, by the control
 -- the field's length, where there is a field

@@ -1,15 +1,20 @@
 -- The field whose flagged fields fit is read by reading its two clock references and its extension: the rows for them are judged one after the other.
 -- Assumes nothing.
 use mathlib.Core.Path.{◌≡◌, ◌∙◌, ap₂}
+use mathlib.Core.Bool.{Bool, true, false}
 use mathlib.Core.List.{List, [], ◌∷◌, ◌++◌}
-use Prim.Native.Nat.{ℕ}
+use Prim.Native.Nat.{ℕ, ◌+◌, ◌≤◌}
+use native.Mathlib.Omega.{arith}
+use borrow.Author.Tests.{ltb-false}
+use lib.ListN.{get_or}
 use Rattle.ground.specs.Answer.{Answer}
 use Rattle.ground.specs.Refusal.{Row, ◌when◌}
 use Rattle.std.specs.declared.option.Option.{Option}
 use Rattle.ground.specs.Number.{is_flagged}
-use Rattle.packet.specs.Extension.{Extended, extended_in, has_wrong_splice}
+use Rattle.packet.specs.Part.{part_at, part_size}
+use Rattle.packet.specs.Extension.{Extended, flagged_size, is_cramped, extended_in, has_wrong_splice}
 use Rattle.packet.specs.Adaptation.{AdaptationField, is_wrong_clock, opcr_place, extension_part, clock_at, flagged_field}
-use Rattle.packet.specs.Steps.{read_clock, read_extended, read_fitting}
+use Rattle.packet.specs.Steps.{Roomy, read_clock, read_extended, read_fitting}
 use Rattle.ground.proofs.Judged.{joined, judge_joined}
 
 -- a field with other clock references and another extension's parts
@@ -54,3 +59,8 @@ fitting_read s size flags pcr opcr x p o e =
 
     second : List Row
     second = (8 when is_wrong_clock s (opcr_place flags) (is_flagged flags 3)) ∷ []
+
+-- an extension that ends in the packet and is not cramped has room for its parts
+pub roomy : (s : List ℕ) (i : ℕ) (flagged : Bool) → i + part_size (part_at s i flagged) ≤ 188 → is_cramped s (part_at s i flagged) ≡ false → Roomy s (part_at s i flagged)
+roomy s i true h e = let inside = ltb-false (get_or s i 0) (flagged_size (get_or s (i + 1) 0)) e in omega arith
+roomy s i false h e = tt

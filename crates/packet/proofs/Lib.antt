@@ -1,5 +1,6 @@
 pub mod Clock
 pub mod Splice
+pub mod Signed
 pub mod Flagged
 pub mod Field
 pub mod Header

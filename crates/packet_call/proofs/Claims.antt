@@ -16,11 +16,11 @@ use Rattle.ground.specs.Outcome.{Determined}
 use Rattle.ground.specs.Refusal.{Row, Silent, ExactCall, judge}
 use Rattle.ground.proofs.Answer.{given_same}
 use Rattle.ground.proofs.Judged.{exact_call, judge_append}
-use Rattle.ground.proofs.Outcome.{determined_told}
+use Rattle.ground.proofs.Outcome.{determined, determined_told}
 use Rattle.ground.proofs.Refused as table
 use Rattle.state.specs.State.{area_of}
 use Rattle.state.specs.declared.State.{State}
-use Rattle.packet_call.specs.Packet.{Said, AfterPacket, told_wanted, told_handled, pid_of, first_refusals, last_refusals, outcome, put_back, report, as_given, unwanted, after_reading, packet_of}
+use Rattle.packet_call.specs.Packet.{Said, AfterPacket, told_wanted, told_handled, report_of, pid_of, first_refusals, last_refusals, outcome, put_back, report, as_given, unwanted, after_reading, packet_of}
 use Rattle.packet_call.specs.Promises.{HandlesPacket}
 use Rattle.packet_call.specs.Claims.{has_no_area, handling_refusals, Claims}
 use Rattle.packet_call.specs.declared.Report.{Report}
@@ -113,4 +113,4 @@ module _ (s : State) (p store out sets : List ℕ) where
       back q = table.accepted refuse (after_reading s own p store out sets) (first_refusals s p store out sets) q.0 ∙ rw q.1
 
 pub claims : Claims
-claims = record { handles_packet = handles_packet; exact_packet = exact_packet; unwanted = unwanted_exactly }
+claims = record { handles_packet = handles_packet; gives_report = λ g. determined (report_of g); exact_packet = exact_packet; unwanted = unwanted_exactly }

@@ -13,6 +13,7 @@ use Rattle.packet.specs.Payload.{payload_of}
 use Rattle.gather.specs.Rule.{Packet, Outcome, rule, leaves_none}
 use Rattle.gather.specs.Kind.{join}
 use Rattle.gather.specs.Memory.{held_of, state_of, marks_of, contradicts_of}
+use Rattle.gather.specs.declared.Gathered.{Gathered}
 use Rattle.section.specs.Section.{table_of}
 use Rattle.state.specs.State.{area_of, area_start, free_area}
 use Rattle.state.specs.Choice.{Placed, places_of, places_for}
@@ -46,6 +47,10 @@ told_report r =
       given_up = r.given_up;
       begun = r.begun;
     }
+
+-- what gathering did, as a report
+abbrev pub report_of : Gathered → Report
+report_of g = record { sections = g.sections; bytes = g.bytes; begun = g.begun; jump = g.jump; repeat = g.repeat; given_up = g.given_up }
 
 -- a report, or none of a packet that is not wanted
 abbrev pub told_wanted : Option Report → Said

@@ -1,11 +1,9 @@
 -- What the private functions of the crate promise each other; no public promise cites it.
 use Rattle.std.specs.Prelude.{◌≡◌, true, List, [], ◌∷◌, ℕ, zero, suc, ◌≤◌, length, drop}
-use Rattle.gather.specs.declared.Gathered.{Gathered}
 use Rattle.ground.specs.House.{store_bytes, least_output, least_list}
 use Rattle.section.specs.Section.{table_of, section_size}
 use Rattle.state.specs.Choice.{Placed, places_for}
 use Rattle.state.specs.declared.State.{State}
-use Rattle.packet_call.specs.declared.Report.{Report}
 use Rattle.sound.specs.Sound.{sound}
 
 -- what the functions behind the packet call may rely on once its first tests are passed
@@ -19,7 +17,3 @@ pub record Ready (s : State) (store out sets : List ℕ) : Type 0 where
 abbrev pub sets_in : ℕ → List Placed → ℕ → List ℕ → List ℕ
 sets_in i places zero out = []
 sets_in i places (suc n) out = places_for i (table_of out) places ∷ sets_in i places n (drop (section_size out) out)
-
--- what gathering said, as the packet call says it
-abbrev pub report_of : Gathered → Report
-report_of g = record { sections = g.sections; bytes = g.bytes; begun = g.begun; jump = g.jump; repeat = g.repeat; given_up = g.given_up }

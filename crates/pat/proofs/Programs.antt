@@ -1,18 +1,19 @@
--- The entries of a PAT: four bytes each.
+-- The entries of a PAT by their index: four bytes each.
 -- Assumes nothing.
-use mathlib.Core.Path.{◌≡◌, refl, ◌∙◌, ap}
+use mathlib.Core.Path.{◌≡◌, refl, sym, ◌∙◌, ap, ap₂}
 use mathlib.Core.Bool.{true, false≢true}
 use mathlib.Core.List.{List, [], ◌∷◌}
-use Prim.Native.Nat.{ℕ, suc, ◌+◌, ◌-◌, ◌/◌, ◌%◌, ◌≤◌}
+use Prim.Native.Nat.{ℕ, zero, suc, ◌+◌, ◌-◌, ◌*◌, ◌/◌, ◌%◌, ◌≤◌, ◌<◌}
+use native.Mathlib.Nat.{not-suc-le-zero, add-zero, add_assoc, div-one}
 use native.Mathlib.Omega.{arith}
-use lib.Dec.{eqb}
-use lib.ListN.{length, take, drop}
-use lib.Seq.{slice, length-slice}
+use lib.Dec.{eqb, lit<}
+use lib.ListN.{length, get_or, take, drop}
+use lib.Seq.{slice, length-slice, get_or-drop, get_or-take}
 use Rattle.std.specs.Simd.{first_chunks}
 use Rattle.ground.proofs.Part.{slice_take}
-use Rattle.psi.specs.Section.{before}
+use Rattle.psi.specs.Section.{word_of, word_at, before}
 use Rattle.psi.specs.Loop.{joined}
-use Rattle.pat.specs.Pat.{fours_of, pat_of}
+use Rattle.pat.specs.Pat.{fours_of, pat_of, association_of}
 
 fill : (l : List ℕ) → (fours_of l).fills ≡ eqb (length l % 4) 0
 fill [] = refl
@@ -30,6 +31,16 @@ count (a ∷ []) = refl
 count (a ∷ (b ∷ [])) = refl
 count (a ∷ (b ∷ (c ∷ []))) = refl
 count (a ∷ (b ∷ (c ∷ (d ∷ rest)))) = let e = count rest in omega arith
+
+nth : (l : List ℕ) (i : ℕ) → i < length l / 4 → get_or (fours_of l).items i [] ≡ take 4 (drop (4 * i) l)
+nth [] i h = absurd (not-suc-le-zero h)
+nth (a ∷ []) i h = absurd (not-suc-le-zero h)
+nth (a ∷ (b ∷ [])) i h = absurd (not-suc-le-zero h)
+nth (a ∷ (b ∷ (c ∷ []))) i h = absurd (not-suc-le-zero h)
+nth (a ∷ (b ∷ (c ∷ (d ∷ rest)))) zero h = refl
+nth (a ∷ (b ∷ (c ∷ (d ∷ rest)))) (suc i) h =
+    let e : suc (suc (suc (suc (4 * i)))) ≡ 4 * suc i = omega arith in
+    nth rest i (omega arith) ∙ ap (λ (k : ℕ). take 4 (drop k (a ∷ (b ∷ (c ∷ (d ∷ rest)))))) e
 
 -- they are the groups of four
 chunks : (l : List ℕ) → (fours_of l).items ≡ first_chunks 4 (length l / 4) l
@@ -63,6 +74,25 @@ module _ (s : List ℕ) (h : 12 ≤ length s) where
   pub pat_count : length (pat_of s).items ≡ (length s - 12) / 4
   unfolding pat_of
   pat_count = count (before 8 s) ∙ ap (λ (n : ℕ). n / 4) room
+
+  module _ (i : ℕ) (l : i < (length s - 12) / 4) where
+    byte : (j : ℕ) → j < 4 → get_or (get_or (pat_of s).items i []) j 0 ≡ get_or s (8 + 4 * i + j) 0
+    unfolding pat_of
+    byte j m =
+        ap (λ (x : List ℕ). get_or x j 0) (nth (before 8 s) i (rw room l))
+        ∙ get_or-take 4 (drop (4 * i) (before 8 s)) j 0 m
+        ∙ get_or-drop (4 * i) (before 8 s) j 0
+        ∙ get_or-drop 8 (take (length s - 4) s) (4 * i + j) 0
+        ∙ get_or-take (length s - 4) s (8 + (4 * i + j)) 0 (omega arith)
+        ∙ ap (λ (k : ℕ). get_or s k 0) (sym (add_assoc 8 (4 * i) j))
+
+    pub pat_association : association_of (get_or (pat_of s).items i [])
+        ≡ record { program_number = word_of (get_or s (8 + 4 * i) 0) (get_or s (8 + 4 * i + 1) 0); pid = word_of (get_or s (8 + 4 * i + 2) 0) (get_or s (8 + 4 * i + 3) 0) % 8192 }
+    pat_association =
+        let first = byte 0 (lit< tt) ∙ ap (λ (k : ℕ). get_or s k 0) (add-zero (8 + 4 * i)) in
+        ap₂ (λ (m n : ℕ). record { program_number = m; pid = n % 8192 })
+        (ap₂ word_of first (byte 1 (lit< tt)))
+        (div-one (word_at (get_or (pat_of s).items i []) 2) ∙ ap₂ word_of (byte 2 (lit< tt)) (byte 3 (lit< tt)))
 
   -- the body, as the code cuts it out
   abbrev pub body : List ℕ

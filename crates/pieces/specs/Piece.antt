@@ -1,5 +1,4 @@
 -- Document 01, "Examples": a piece of the listing's input, as it lies in memory between two reads.
-use Rattle.std.specs.Borrow.{MutBor}
 use Rattle.std.specs.Prelude.{ℕ, ◌+◌, ◌-◌, ◌/◌, ◌%◌, min, Bool, true, false, cond, List, [], ◌∷◌, length, take, drop, nat_lt}
 use Rattle.ground.specs.House.{packet_bytes}
 use Rattle.ground.specs.Write.{put}
@@ -11,6 +10,7 @@ use Rattle.text.specs.declared.Text as text_code
 use Rattle.pieces.specs.Input.{Work, after_call, next_lines, after_calls, printed}
 use Rattle.pieces.specs.declared.packets.Work as work_code
 use Rattle.pieces.specs.declared.reads.Piece as piece_code
+use Rattle.pieces.specs.declared.reads.Step.{Step}
 use Rattle.pieces.specs.declared.reads.Brought.{Brought}
 use Rattle.pieces.specs.declared.reads.Brought.TheVariants.{Bytes, End, Failure}
 
@@ -18,8 +18,8 @@ use Rattle.pieces.specs.declared.reads.Brought.TheVariants.{Bytes, End, Failure}
 abbrev pub told_work : work_code.Work → Work
 told_work w =
     record {
-      state = w.state;
-      index = w.index;
+      state = w.progress.state;
+      index = w.progress.index;
       store = w.store.now;
       out = w.out.now;
       sets = w.sets.now;
@@ -36,17 +36,9 @@ pub record Held : Type 0 where
 abbrev pub told_held : piece_code.Piece → work_code.Work → Held
 told_held p w = record { work = told_work w; loan = p.bytes.ghost_name; piece = p.bytes.now; kept = p.kept }
 
--- the beginning: a filter for all tables is open on PID 0, and no packet came
-abbrev pub beginning : MutBor (List ℕ) → MutBor (List ℕ) → MutBor (List ℕ) → Work
-beginning store out sets =
-    record {
-      state = (open_of fresh 0 All).state;
-      index = 0;
-      store = store.now;
-      out = out.now;
-      sets = sets.now;
-      loans = store.ghost_name ∷ out.ghost_name ∷ sets.ghost_name ∷ [];
-    }
+-- the beginning: a filter for all tables is open on PID 0, no packet came, and nothing was read
+abbrev pub beginning : Step
+beginning = record { progress = record { state = (open_of fresh 0 All).state; index = 0 }; kept = 0 }
 
 -- all that there is after a read was listed, and whether to read on
 pub record AfterPiece : Type 0 where

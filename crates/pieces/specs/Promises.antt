@@ -1,14 +1,13 @@
 -- What each public call promises.
-use Rattle.std.specs.Borrow.{MutBor}
-use Rattle.std.specs.Prelude.{◌≡◌, ℕ, List}
+use Rattle.std.specs.Prelude.{◌≡◌}
 use Rattle.text.specs.Text.{Text}
-use Rattle.pieces.specs.Input.{Work}
 use Rattle.pieces.specs.Piece.{Held, AfterPiece, beginning, piece_of}
+use Rattle.pieces.specs.declared.reads.Step.{Step}
 use Rattle.pieces.specs.declared.reads.Brought.{Brought}
 
 -- `begin`
-abbrev pub Begins : MutBor (List ℕ) → MutBor (List ℕ) → MutBor (List ℕ) → Work → Type 0
-Begins store out sets r = r ≡ beginning store out sets
+abbrev pub Begins : Step → Type 0
+Begins r = r ≡ beginning
 
 -- `list_read`: its outcome is what is held, with every byte of the piece, the store, the output and the text and every place of the list after it, and whether to read on
 abbrev pub ListsRead : Held → Brought → Text → AfterPiece → Type 0

@@ -4,5 +4,5 @@
 mod packets;
 mod reads;
 
-pub use packets::Work;
-pub use reads::{Brought, Piece, begin};
+pub use packets::{Progress, Work};
+pub use reads::{Brought, Piece, Step, begin};

@@ -9,11 +9,17 @@ use driver::State;
 use packet::PACKET_BYTES;
 use text::Text;
 
-// What goes on from packet to packet: the state, the next packet's index, and what is lent to packet calls.
-#[derive(Drop)]
-pub struct Work<'a> {
+// What goes on from packet to packet: the state, and the next packet's index.
+#[derive(Clone, Copy)]
+pub struct Progress {
     pub state: State,
     pub index: u64,
+}
+
+// The same, and what is lent to packet calls.
+#[derive(Drop)]
+pub struct Work<'a> {
+    pub progress: Progress,
     pub store: &'a mut [u8],
     pub out: &'a mut [u8],
     pub sets: &'a mut [u32],
@@ -33,10 +39,13 @@ impl Work<'_> {
             Lists (after_call w packet.now) (next_lines w packet.now) (told_text text.old)
             (told_work self.new) (told_text text.new) }
     {
-        let handled = driver::packet(self.state, packet, self.store, self.out, self.sets);
-        lines::packet(text, self.index, packet, handled.answer, self.output());
-        self.state = handled.state;
-        self.index = self.index.wrapping_add(1);
+        let before = self.progress;
+        let handled = driver::packet(before.state, packet, self.store, self.out, self.sets);
+        lines::packet(text, before.index, packet, handled.answer, self.output());
+        self.progress = Progress {
+            state: handled.state,
+            index: before.index.wrapping_add(1),
+        };
     }
 
     // The whole packets of a piece, one after the other.

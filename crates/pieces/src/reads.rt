@@ -1,10 +1,10 @@
 // What a read of the input brings, listed: its whole packets, or at the end what is left.
 ghost use Rattle.std.specs.Prelude.{◌≡◌, ◌≤◌, true, false, length, take};
 ghost use Rattle.text.specs.Text.{told_text};
-ghost use Rattle.pieces.specs.Piece.{told_work, told_held, told_read, more_of, ended_of};
+ghost use Rattle.pieces.specs.Piece.{told_held, told_read, more_of, ended_of};
 ghost use Rattle.pieces.specs.Promises.{Begins, ListsRead};
 
-use crate::packets::Work;
+use crate::packets::{Progress, Work};
 use driver::Choice;
 use octets::further;
 use packet::PACKET_BYTES;
@@ -19,6 +19,13 @@ pub enum Brought {
     Failure,
 }
 
+// Between two reads: the progress, and how many bytes of a packet are at the piece's start already.
+#[derive(Clone, Copy)]
+pub struct Step {
+    pub progress: Progress,
+    pub kept: usize,
+}
+
 // Where reads go: how many bytes of a packet are at its start already.
 #[derive(Drop)]
 pub struct Piece<'a> {
@@ -26,17 +33,17 @@ pub struct Piece<'a> {
     pub kept: usize,
 }
 
-// A fresh state with a filter on PID 0 that lets all tables through, and the memory for its packets.
-pub fn begin<'a>(store: &'a mut [u8], out: &'a mut [u8], sets: &'a mut [u32]) -> Work<'a>
-    ensures { Begins store.entry out.entry sets.entry (told_work result) }
+// A fresh state with a filter on PID 0 that lets all tables through, and nothing read.
+pub fn begin() -> Step
+    ensures { Begins result }
 {
     let opened = driver::open(driver::fresh(), Pid::PROGRAM_ASSOCIATION, Choice::All);
-    Work {
-        state: opened.state,
-        index: 0,
-        store,
-        out,
-        sets,
+    Step {
+        progress: Progress {
+            state: opened.state,
+            index: 0,
+        },
+        kept: 0,
     }
 }
 

@@ -76,6 +76,9 @@ module _ (s : List ℕ) (i : ℕ) (f : Found) (e : walk_of s (i + 1) 0 ≡ given
   entry_on : pmt_entry_of s i ≡ judge refused (pmt_missing s i) (given (stream_of own))
   entry_on = passed_over (stream_of own) (pmt_refusals s) (pmt_missing s i) (silent s (i + 1) 0 f e)
 
+  pub entry_missing : f.entries ≤ i → pmt_entry_of s i ≡ refused 27
+  entry_missing h = entry_on ∙ sym (yes≤ _ _ _ _ (rw entry_found at h) refl)
+
   module _ (h : i < f.entries) where
     listed : i < length (streams_of s).items
     listed = rw entry_found at h

@@ -68,6 +68,10 @@ lt_not (fin s m e) (fin t n d) r =
     let b = n * up d * down e in
     never_both s t a b (below_is s t a b r)
 
+-- nothing is below itself
+pub lt_self : (x : Float) → lt x x ≡ true → ⊥
+lt_self x e = false≢true (sym (lt_not x x e) ∙ lt_le x x e)
+
 -- so what is no NaN is at most itself
 pub le_self : (x : Float) → is_nan x ≡ false → le x x ≡ true
 le_self x p = go (lt x x) refl

@@ -5,10 +5,10 @@ use mathlib.Core.Bool.{Bool, false, cond}
 use Prim.Native.Nat.{ℕ, ◌*◌, ◌^◌, ◌≤◌, ◌<◌}
 use native.Mathlib.Nat.{mul-one, mul-pos, mul_assoc, mul_comm, zero-mul}
 use native.Mathlib.Omega.{arith}
-use lib.Dec.{eqb}
+use lib.Dec.{T, eqb, le→leb}
 use lib.IntN.{ℤ, pos}
 use borrow.Author.Tests.{ne_eqb}
-use lib.Ieee.{Float, nan, inf, fin, Format, prec, up, down, unlike, round, div, of_int}
+use lib.Ieee.{Float, nan, inf, fin, Format, binary64, prec, in_float, up, down, unlike, round, div, of_int}
 use lib.Ieee.Fits.{down_pos}
 use lib.Ieee.Exact.{HasValue}
 use lib.Ieee.Back.{round_whole}
@@ -48,3 +48,8 @@ quotient f (fin s m e) (fin t k g) n d v w p =
 pub whole_quotient : (f : Format) (n d : ℕ) → n ≤ 2 ^ prec f → d ≤ 2 ^ prec f → 0 < d → div f (of_int f (pos n)) (of_int f (pos d)) ≡ round f false n d
 unfolding of_int
 whole_quotient f n d h k p = quotient f (round f false n 1) (round f false d 1) n d (round_whole f false n h) (round_whole f false d k) p
+
+-- such a number is made a double
+pub made_exactly : {n : ℕ} → n ≤ 2 ^ 53 → T (in_float binary64 (pos n))
+unfolding in_float
+made_exactly {n} h = le→leb n (2 ^ 53) h

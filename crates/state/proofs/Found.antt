@@ -20,7 +20,7 @@ use Rattle.state.specs.declared.Area.{Area}
 use Rattle.state.specs.declared.Filter.{Filter}
 
 -- the first element that passes is found at its index, and none where the index is the number of all
-found_at : {A : Type 0} (p : A → Bool) (l : List A) → position p l ≡ cond (ltb (find p l) (length l)) (Some (find p l)) None
+pub found_at : {A : Type 0} (p : A → Bool) (l : List A) → position p l ≡ cond (ltb (find p l) (length l)) (Some (find p l)) None
 found_at {A} p l = rw (is_position_or_len (find p) p refl (λ x xs. ap (λ (k : ℕ). cond (p x) 0 k) (sym (one-add (find p xs)))) l)
   where
     one-add : (j : ℕ) → 1 + j ≡ suc j

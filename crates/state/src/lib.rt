@@ -2,6 +2,7 @@
 #![tactic(auto)]
 
 ghost use Rattle.std.specs.Prelude.{◌≡◌};
+ghost use Rattle.ground.specs.Set.{set_of};
 ghost use Rattle.state.specs.Steps.{MayAsk, IsSet};
 ghost use Rattle.state.specs.State.{is_free};
 ghost use Rattle.state.specs.Choice.{is_for};
@@ -137,20 +138,21 @@ fn is_free(filter: Filter) -> bool
     filter.number == 0
 }
 
-// The lowest free place: below it every bit of the set of free places is 0, and where none is free all 32 are.
-pub fn free_place(filters: [Filter; PLACES]) -> Option<usize>
-    ensures { FindsFreePlace filters result }
+// The set of free places, the first place the least significant bit.
+fn free_places(filters: [Filter; PLACES]) -> u32
+    ensures { result ≡ set_of is_free filters }
 {
-    let zeros = passing(|place| {
+    passing(|place| {
         let filter = filters[place];
         is_free(filter)
     })
-    .trailing_zeros();
-    if zeros < 32 {
-        Some(zeros as usize)
-    } else {
-        None
-    }
+}
+
+// The lowest free place: below it every bit of the set of free places is 0, and where none is free all 32 are, which is no place.
+pub fn free_place(filters: [Filter; PLACES]) -> Option<usize>
+    ensures { FindsFreePlace filters result }
+{
+    Some(free_places(filters).trailing_zeros() as usize).filter(|place| *place < PLACES)
 }
 
 // Whether a section of this table_id on this area is for the filter at a place.
