@@ -10,10 +10,10 @@ pub(crate) fn first_of<T>(items: &mut [T], size: u64) -> &mut [T] {
     &mut items[..n]
 }
 
-// So many items are compared at once.
+// So many items are compared at once, by the library's equality of slices.
 const GROUP: usize = 64;
 
-// How many items are passed with the groups before this one, or with all whole groups of so many items where there is none.
+// How many items the groups before this one have; where there is none, all the whole groups of so many items.
 fn passed(group: Option<usize>, items: usize) -> usize
     ensures { result ≤ items }
 {

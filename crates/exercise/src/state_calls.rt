@@ -102,6 +102,7 @@ impl Kept {
         if (40960 < lent) | (8192 < lent_out) | (128 < places) {
             return None;
         }
+        // as they were before the call, to tell what it changed
         let (store, out, list) = (self.store, self.out, self.list);
         let handled = driver::packet(
             self.state,
